@@ -1,13 +1,17 @@
-// A library with one function.
+//! What every other crate stands on: the faults of a file and the failures of calls, the traits for what lies
+//! outside (a source, a target, a sink), the objects in memory that meet them, and owned byte texts.
 #![tactic(auto)]
 
-ghost use Rattle.std.specs.Prelude.{◌≡◌};
-ghost use Rattle.e57_base.specs.Echo.{echo_of};
+mod fault;
+mod kind;
+mod octets;
+mod sink;
+mod source;
+mod target;
 
-// The `ensures` clause is the contract: what `echo` returns is `echo_of` of its argument, a definition
-// in `specs/Echo.antt`, which a caller's clause can cite too.
-pub fn echo(x: usize) -> usize
-    ensures { result ≡ echo_of x }
-{
-    x
-}
+pub use fault::{Failed, Fault, OpenFault, PutFault, ReadFault, TextFault, WriteFault};
+pub use kind::Kind;
+pub use octets::Octets;
+pub use sink::Sink;
+pub use source::Source;
+pub use target::Target;
