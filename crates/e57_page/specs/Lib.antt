@@ -1,0 +1,4 @@
+pub mod Place
+pub mod Header
+pub mod File
+pub mod Pages

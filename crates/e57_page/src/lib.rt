@@ -1,0 +1,11 @@
+//! The pages of a file: its header, physical and logical offsets, and reads that give no byte of a page with a wrong
+//! checksum word.
+#![tactic(auto)]
+
+mod header;
+mod pages;
+mod place;
+
+pub use header::Header;
+pub use pages::{Cut, Pages};
+pub use place::{physical_of, place_of};

@@ -1,0 +1,20 @@
+//! Physical and logical offsets.
+
+ghost use Rattle.std.specs.Prelude.{◌≡◌, ◌≤◌, ◌^◌, Some};
+ghost use Rattle.e57_page.specs.Place.{place};
+
+/// The logical offset of the byte at a physical offset, or none where that byte is of a page's word.
+pub fn place_of(physical: u64) -> Option<u64>
+    ensures { result ≡ place physical }
+{
+    let inside = physical % 1024;
+    (inside < 1020).then_some(physical / 1024 * 1020 + inside)
+}
+
+/// The physical offset of the byte at a logical offset: the one whose place it is.
+pub fn physical_of(logical: u64) -> u64
+    requires { logical ≤ 2 ^ 48 }
+    ensures { place result ≡ Some logical }
+{
+    logical / 1020 * 1024 + logical % 1020
+}
