@@ -1,0 +1,6 @@
+use Rattle.std.proofs.Common.{◌∙◌}
+use Rattle.e57_bits.proofs.Reading.{little_number-bits}
+use Rattle.e57_bits.proofs.u16_at.Goals as goal
+
+pub returns : goal.returns
+returns c = c.read_u16.ensures ∙ little_number-bits c.args.bytes.now (λ k. (c.type_inv.bytes k).fits) c.args.at 2
