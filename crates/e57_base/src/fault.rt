@@ -62,3 +62,16 @@ pub enum WriteFault {
     /// Memory ran out.
     Memory,
 }
+
+/// How a command of the program fails.
+#[derive(Clone, Copy, Debug, PartialEq, Eq)]
+pub enum RunFault {
+    /// The file has this fault.
+    Refused(Fault),
+    /// The source failed.
+    Source,
+    /// The target or a sink failed.
+    Out,
+    /// Memory ran out.
+    Memory,
+}

@@ -9,7 +9,7 @@ mod sink;
 mod source;
 mod target;
 
-pub use fault::{Failed, Fault, OpenFault, PutFault, ReadFault, TextFault, WriteFault};
+pub use fault::{Failed, Fault, OpenFault, PutFault, ReadFault, RunFault, TextFault, WriteFault};
 pub use kind::Kind;
 pub use octets::Octets;
 pub use sink::Sink;
