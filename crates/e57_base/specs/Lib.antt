@@ -3,3 +3,7 @@ pub mod Kind
 pub mod Source
 pub mod Target
 pub mod Sink
+pub mod Calls
+pub mod BytesSource
+pub mod Files
+pub mod MemSource
