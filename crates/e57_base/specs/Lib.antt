@@ -7,3 +7,5 @@ pub mod Calls
 pub mod BytesSource
 pub mod Files
 pub mod MemSource
+pub mod MemTarget
+pub mod MemSink
