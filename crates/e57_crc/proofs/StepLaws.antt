@@ -100,6 +100,6 @@ after_four-looked_up z y a b c d pa pb pc pd =
     ∙ byte_beside (8 * (z + 2 + 1)) (8 * (z + 1 + 1)) (2 ^ 8) y _ (omega arith)
     ∙ byte_beside (8 * (z + 1 + 1)) (8 * (z + 1)) (2 ^ 16) y _ (omega arith)))
 
--- the first four of eight bytes have 32 steps more before them
-pub steps-two_words : (x y : ℕ) → bit_xor (steps 64 x) (steps 32 y) ≡ steps 32 (bit_xor (steps 32 x) y)
-steps-two_words x y = rw (steps-xor 32 (steps 32 x) y, ← steps-add 32 32 x) refl
+-- eight bytes as two words: the first of them, x, has 32 steps more before it
+pub steps-two_words : (x y : ℕ) → bit_xor (steps 32 y) (steps 64 x) ≡ steps 32 (bit_xor (steps 32 x) y)
+steps-two_words x y = rw (steps-xor 32 (steps 32 x) y, ← steps-add 32 32 x) (xor_comm (steps 32 y) (steps 64 x))

@@ -42,7 +42,7 @@ pub fn word_right(page: &[u8; 1024]) -> bool
 fn after_words(start: u32, low: u32, high: u32) -> u32
     ensures { result ≡ steps 32 (bit_xor (steps 32 (bit_xor start low)) high) }
 {
-    after_four(start ^ low, 4) ^ after_four(high, 0)
+    after_four(high, 0) ^ after_four(start ^ low, 4)
 }
 
 /// The register `word` after its own 32 bits and then `zeros` bytes 0, at most four of them.
