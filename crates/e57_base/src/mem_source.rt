@@ -1,6 +1,6 @@
 //! A source of files in memory.
 
-ghost use Rattle.std.specs.Prelude.{◌≡◌, ◌<◌, length, not, is_ok, IfSome, IsNone, OnOk, OnErr, IfOk};
+ghost use Rattle.std.specs.Prelude.{◌≡◌, ℕ, List, ◌<◌, length, not, is_ok, IfSome, IsNone, OnOk, OnErr, IfOk};
 ghost use Rattle.std.specs.Option.{option_map};
 ghost use Rattle.std.specs.Result.{result_ok};
 ghost use Rattle.std.specs.FinMap.{get};
@@ -60,7 +60,8 @@ impl Model for MemSource {
 impl MemSource {
     /// A source with no file, and with room in its log for so many pages.
     pub fn new(alloc: Global, log_room: usize) -> Result<MemSource, AllocError>
-        ensures { IfOk result (λ source. source ≡ initial_source log_room) }
+        ensures initial { IfOk result (λ source. source ≡ initial_source log_room) }
+        ensures absent { IfOk result (λ source. (name : List ℕ) → IsNone (get source.files name)) }
     {
         let log = Vec::with_capacity(alloc, log_room)?;
         Ok(MemSource {
