@@ -1,5 +1,5 @@
 -- A source of files in memory.
-use Rattle.std.specs.Prelude.{◌≡◌, ℕ, ◌+◌, Bool, true, false, ◌&&◌, not, if◌then◌else◌, List, [], ◌∷◌, ◌++◌, length, nat_lt, Option, Some, None, is_some, is_none, IsNone, IfSome, refl}
+use Rattle.std.specs.Prelude.{◌≡◌, ℕ, Bool, true, false, ◌&&◌, if◌then◌else◌, List, [], ◌∷◌, ◌++◌, length, nat_lt, Option, Some, None, is_some, is_none, IsNone, IfSome, refl}
 use Rattle.std.specs.Option.{option_map}
 use Rattle.std.specs.FinMap.{get, insert, empty, code, get-empty, get-insert}
 use Rattle.std.specs.Ordering.{nat_cmp}
@@ -58,7 +58,7 @@ abbrev pub file_opened : SourceState → List ℕ → Option (List ℕ)
 file_opened source name = if is_failing source.calls then None else get source.files name
 
 -- after `open` of a name
-abbrev pub after_open : SourceState → List ℕ → SourceState
+unfoldable pub after_open : SourceState → List ℕ → SourceState
 after_open source name =
     record source {
       held = file_opened source name;
@@ -73,7 +73,7 @@ abbrev pub has_log_room : SourceState → Bool
 has_log_room source = nat_lt (length source.asked) source.room
 
 -- after `read_page` of page n
-abbrev pub after_read : SourceState → ℕ → SourceState
+unfoldable pub after_read : SourceState → ℕ → SourceState
 after_read source n =
     record source {
       asked = if has_log_room source then source.asked ++ n ∷ [] else source.asked;

@@ -108,6 +108,7 @@ impl Source for MemSource {
     ghost view = { source_view };
 
     /// Opens the file of this name. It fails where the call is listed, or there is no such file.
+    #[tactic(auto, unfolding(crate::specs::MemSource::after_open))]
     fn open(&mut self, name: &str) -> Result<u64, Failed>
         ensures opens { Opens (source_view self.old) name.now result (source_view self.new) }
         ensures answer { result_ok result ≡ option_map length (file_opened self.old name.now) }
@@ -130,6 +131,7 @@ impl Source for MemSource {
     }
 
     /// Reads page `n` of the open file. It fails where the call is listed, and then leaves `out` as it was.
+    #[tactic(auto, unfolding(crate::specs::MemSource::after_read))]
     fn read_page(&mut self, n: u64, out: &mut [u8; 1024]) -> Result<(), Failed>
         requires { HasPage (source_view self.old) n }
         ensures reads { ReadsPage (source_view self.old) n out.new result (source_view self.new) }

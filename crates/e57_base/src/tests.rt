@@ -61,19 +61,18 @@ fn reads_bytes(rt: HostRuntime) -> Result<(), Fail> {
 #[test]
 fn writes_pages(rt: HostRuntime) -> Result<(), Fail> {
     let mut target = MemTarget::new(rt.alloc(), 2, 7)?;
-    target.fail_at(1)?;
-    target.tear_at(3, 1000)?;
-    target.tear_at(3, 3)?;
+    target.fail_at(4)?;
+    target.tear_at(5, 1000)?;
+    target.tear_at(5, 3)?;
     target.create("out.e57")?;
-    let listed = target.put_page(0, &page_of(7));
-    assert_eq!(rt; listed, Err(Failed));
-    assert!(rt; target.bytes().is_empty());
     target.put_page(0, &page_of(7))?;
-    let torn = target.put_page(0, &page_of(5));
-    assert_eq!(rt; torn, Err(Failed));
     target.put_page(1, &page_of(9))?;
     let past = target.put_page(2, &page_of(9));
     assert_eq!(rt; past, Err(Failed));
+    let listed = target.put_page(0, &page_of(4));
+    assert_eq!(rt; listed, Err(Failed));
+    let torn = target.put_page(0, &page_of(5));
+    assert_eq!(rt; torn, Err(Failed));
     target.finish()?;
     let bytes = target.into_bytes();
     assert_eq!(rt; bytes.len(), 2048);
