@@ -1,5 +1,5 @@
 -- A source of one file in memory.
-use Rattle.std.specs.Prelude.{◌≡◌, ℕ, Bool, true, false, if◌then◌else◌, List, length, Option, Some, None, IfSome, refl}
+use Rattle.std.specs.Prelude.{◌≡◌, ℕ, Bool, true, false, if◌then◌else◌, List, length, Some, None, IfSome, refl}
 use Rattle.e57_base.specs.Count.{raised}
 use Rattle.e57_base.specs.Source.{SourceView, HoldsSize}
 
@@ -29,7 +29,7 @@ bytes_view source =
     }
 
 -- after `open`
-abbrev pub after_open : BytesState → BytesState
+unfoldable pub after_open : BytesState → BytesState
 after_open source = record source { is_open = true; opened = raised source.opened }
 
 -- what is held is as long as the open file

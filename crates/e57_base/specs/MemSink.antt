@@ -1,5 +1,5 @@
 -- A sink in memory.
-use Rattle.std.specs.Prelude.{ℕ, ◌+◌, ◌-◌, Bool, ◌||◌, if◌then◌else◌, List, [], ◌++◌, length, take, nat_lt, Option, Some}
+use Rattle.std.specs.Prelude.{ℕ, ◌+◌, ◌-◌, Bool, ◌||◌, if◌then◌else◌, List, [], ◌++◌, length, take, nat_lt, Some}
 use Rattle.e57_base.specs.Calls.{CallList, no_calls, is_failing, called, raised_if}
 use Rattle.e57_base.specs.Sink.{SinkView}
 
@@ -30,7 +30,7 @@ abbrev pub appended : SinkState → List ℕ → List ℕ
 appended sink piece = if is_failing sink.calls then [] else take (sink.room - length sink.written) piece
 
 -- after `put` of a piece
-abbrev pub after_put : SinkState → List ℕ → SinkState
+unfoldable pub after_put : SinkState → List ℕ → SinkState
 after_put sink piece =
     record sink {
       written = sink.written ++ appended sink piece;

@@ -1,5 +1,5 @@
 -- A target of a new file in memory.
-use Rattle.std.specs.Prelude.{◌≡◌, ℕ, ◌+◌, ◌*◌, ◌≤◌, min, Bool, true, false, ◌||◌, not, ◌==◌, if◌then◌else◌, List, [], ◌∷◌, ◌++◌, length, take, drop, reverse, find, nat_lt, nat_le, Option, Some, None, is_some, IfSome}
+use Rattle.std.specs.Prelude.{ℕ, ◌+◌, ◌*◌, ◌≤◌, min, Bool, false, ◌||◌, not, ◌==◌, if◌then◌else◌, List, [], ◌∷◌, ◌++◌, length, take, drop, reverse, find, nat_lt, nat_le, Option, Some, None, is_some, IfSome}
 use Rattle.std.specs.Option.{option_map}
 use Rattle.e57_base.specs.Calls.{CallList, no_calls, is_failing, called, raised_if}
 use Rattle.e57_base.specs.Count.{raised}
@@ -64,7 +64,7 @@ abbrev pub fails : TargetState → Bool
 fails target = is_listed target.tears target.calls
 
 -- after `create` of a name
-abbrev pub after_create : TargetState → List ℕ → TargetState
+unfoldable pub after_create : TargetState → List ℕ → TargetState
 after_create target name =
     record target {
       bytes = if fails target then target.bytes else [];
@@ -98,7 +98,7 @@ abbrev pub pages_with : ℕ → Option ℕ → Option ℕ
 pages_with n pages = option_map (λ pages. if n == pages then pages + 1 else pages) pages
 
 -- after `put_page` of page n
-abbrev pub after_put : TargetState → ℕ → List ℕ → TargetState
+unfoldable pub after_put : TargetState → ℕ → List ℕ → TargetState
 after_put target n page =
     record target {
       bytes = with_piece (1024 * n) (take (bytes_put target n) page) target.bytes;
@@ -109,7 +109,7 @@ after_put target n page =
     }
 
 -- after `finish`
-abbrev pub after_finish : TargetState → TargetState
+unfoldable pub after_finish : TargetState → TargetState
 after_finish target =
     record target {
       finished = not (fails target);

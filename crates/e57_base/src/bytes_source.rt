@@ -49,6 +49,7 @@ impl Source for BytesSource {
     ghost view = { bytes_view };
 
     /// Opens the file under any name.
+    #[tactic(auto, unfolding(crate::specs::BytesSource::after_open))]
     fn open(&mut self, name: &str) -> Result<u64, Failed>
         ensures opens { Opens (bytes_view self.old) name.now result (bytes_view self.new) }
         ensures answer { IsOkAnd result (λ size. size ≡ length self.old.bytes) }

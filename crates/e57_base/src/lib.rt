@@ -27,3 +27,6 @@ pub use octets::Octets;
 pub use sink::Sink;
 pub use source::Source;
 pub use target::Target;
+
+#[cfg(test)]
+mod tests;

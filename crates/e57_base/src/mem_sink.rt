@@ -67,6 +67,7 @@ impl Sink for MemSink {
 
     /// Puts a piece. It fails where the call is listed, and then appends nothing, or where there is no room for the
     /// whole piece, and then appends what still fits.
+    #[tactic(auto, unfolding(crate::specs::MemSink::after_put))]
     fn put(&mut self, piece: &[u8]) -> Result<(), Failed>
         ensures puts { Puts (sink_view self.old) piece.now result (sink_view self.new) }
         ensures answer { is_ok result ≡ not (put_fails self.old piece.now) }

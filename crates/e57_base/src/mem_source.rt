@@ -1,6 +1,6 @@
 //! A source of files in memory.
 
-ghost use Rattle.std.specs.Prelude.{◌≡◌, ◌<◌, length, not, is_ok, IfSome, IsNone, OnOk, OnErr, IfOk};
+ghost use Rattle.std.specs.Prelude.{◌≡◌, ℕ, List, ◌<◌, length, not, is_ok, IfSome, IsNone, OnOk, OnErr, IfOk};
 ghost use Rattle.std.specs.Option.{option_map};
 ghost use Rattle.std.specs.Result.{result_ok};
 ghost use Rattle.std.specs.FinMap.{get};
@@ -60,7 +60,8 @@ impl Model for MemSource {
 impl MemSource {
     /// A source with no file, and with room in its log for so many pages.
     pub fn new(alloc: Global, log_room: usize) -> Result<MemSource, AllocError>
-        ensures { IfOk result (λ source. source ≡ initial_source log_room) }
+        ensures initial { IfOk result (λ source. source ≡ initial_source log_room) }
+        ensures absent { IfOk result (λ source. (name : List ℕ) → IsNone (get source.files name)) }
     {
         let log = Vec::with_capacity(alloc, log_room)?;
         Ok(MemSource {
@@ -107,6 +108,7 @@ impl Source for MemSource {
     ghost view = { source_view };
 
     /// Opens the file of this name. It fails where the call is listed, or there is no such file.
+    #[tactic(auto, unfolding(crate::specs::MemSource::after_open))]
     fn open(&mut self, name: &str) -> Result<u64, Failed>
         ensures opens { Opens (source_view self.old) name.now result (source_view self.new) }
         ensures answer { result_ok result ≡ option_map length (file_opened self.old name.now) }
@@ -129,6 +131,7 @@ impl Source for MemSource {
     }
 
     /// Reads page `n` of the open file. It fails where the call is listed, and then leaves `out` as it was.
+    #[tactic(auto, unfolding(crate::specs::MemSource::after_read))]
     fn read_page(&mut self, n: u64, out: &mut [u8; 1024]) -> Result<(), Failed>
         requires { HasPage (source_view self.old) n }
         ensures reads { ReadsPage (source_view self.old) n out.new result (source_view self.new) }

@@ -118,6 +118,7 @@ impl Target for MemTarget {
     ghost view = { target_view };
 
     /// Creates the file of this name. It fails where the call is listed, and then holds what it held.
+    #[tactic(auto, unfolding(crate::specs::MemTarget::after_create))]
     fn create(&mut self, name: &str) -> Result<(), Failed>
         ensures creates { Creates (target_view self.old) name.now result (target_view self.new) }
         ensures answer { is_ok result ≡ not (fails self.old) }
@@ -141,6 +142,7 @@ impl Target for MemTarget {
     }
 
     /// Writes page `n`. It fails where the call is listed, or there is no room for the page.
+    #[tactic(auto, unfolding(crate::specs::MemTarget::after_put))]
     fn put_page(&mut self, n: u64, page: &[u8; 1024]) -> Result<(), Failed>
         requires { TakesPage (target_view self.old) n }
         ensures puts { PutsPage (target_view self.old) n page.now result (target_view self.new) }
@@ -167,6 +169,7 @@ impl Target for MemTarget {
     }
 
     /// Ends the file. It fails where the call is listed.
+    #[tactic(auto, unfolding(crate::specs::MemTarget::after_finish))]
     fn finish(&mut self) -> Result<(), Failed>
         ensures finishes { Finishes (target_view self.old) result (target_view self.new) }
         ensures answer { is_ok result ≡ not (fails self.old) }

@@ -1,5 +1,4 @@
-use Rattle.std.proofs.Common.{◌*◌, ◌≤◌, length, arith, rules}
-use Rattle.std.proofs.lemmas.Grind.{common_steps}
+use Rattle.std.proofs.Common.{◌*◌, ◌≤◌, length, rules}
 use Rattle.e57_base.specs.Target.{Torn}
 use Rattle.e57_base.proofs.TornPage.{torn_piece}
 use Rattle.e57_base.proofs.mem_target.MemTargetTarget.put_page.Goals as goal
