@@ -8,4 +8,4 @@ mod place;
 
 pub use header::Header;
 pub use pages::{Cut, Pages};
-pub use place::{physical_of, place_of};
+pub use place::{one_physical, physical_of, place_of};
