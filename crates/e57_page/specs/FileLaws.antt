@@ -1,16 +1,17 @@
 -- Laws of a file's pages, its logical bytes and its faults.
-use Rattle.std.specs.Prelude.{◌≡◌, ℕ, zero, suc, ◌+◌, ◌-◌, ◌*◌, ◌/◌, ◌<◌, ◌≤◌, min, Bool, true, false, List, [], ◌∷◌, ◌++◌, length, take, drop, Option, Some, None}
+use Rattle.std.specs.Prelude.{◌≡◌, ℕ, zero, suc, ◌+◌, ◌-◌, ◌*◌, ◌/◌, ◌%◌, ◌^◌, ◌<◌, ◌≤◌, nat_lt, ◌==◌, ◌||◌, not, if◌then◌else◌, Bool, true, false, List, [], ◌∷◌, ◌++◌, length, take, drop, Option, Some, None}
 use Rattle.std.specs.List.{flat_map, range_with_len}
 use Rattle.std.specs.Option.{option_or}
 use Rattle.std.proofs.Common.{lit≤, refl, sym, ap, ◌∙◌, arith, zero-add, add-zero, add-suc, add-one, length-append, length-take, length-drop}
+use Rattle.std.proofs.lemmas.Bool.Decides.{nat_tests}
 use Rattle.std.proofs.lemmas.List.{take-take, take-append-le, drop-append-le, drop-drop, drop_at, drop-take}
 use Rattle.e57_base.specs.declared.fault.Fault.{Fault}
 use Rattle.e57_base.specs.Source.{page_of}
-use Rattle.e57_base.specs.declared.kind.Kind.TheVariants.{Page}
+use Rattle.e57_base.specs.declared.kind.Kind.TheVariants.{FileLength, Page}
 use Rattle.e57_bits.specs.BitLaws.{number-take}
 use Rattle.e57_crc.specs.Crc.{is_right}
 use Rattle.e57_page.specs.Header.{fault, header_fault, header_of}
-use Rattle.e57_page.specs.File.{payload, logical, page_fault, pages_fault}
+use Rattle.e57_page.specs.File.{length_fault, payload, logical, page_fault, pages_fault}
 
 -- no fault in two places: none in either
 or_none : (a b : Option Fault) → option_or a b ≡ None → (a ≡ None) × (b ≡ None)
@@ -121,3 +122,14 @@ header_fault-page file size =
 pub header_of-page : (file : List ℕ) → header_of (page_of file 0) ≡ header_of file
 header_of-page file =
     rw (number-take file 1024 (8 * 16) 64 (lit≤ tt), number-take file 1024 (8 * 24) 64 (lit≤ tt), number-take file 1024 (8 * 32) 64 (lit≤ tt))
+
+-- A length with no fault is that of one or more whole pages, up to 2^48 bytes.
+pub whole_length : (n : ℕ) → length_fault n ≡ None → (0 < n) × (n % 1024 ≡ 0) × (n ≤ 2 ^ 48)
+unfolding length_fault
+whole_length n whole = (tests (n == 0) (not (n % 1024 == 0)) (nat_lt (2 ^ 48) n) whole n refl refl refl)
+  where
+    tests : (a b c : Bool) → (if a || b || c then Some (fault FileLength n 0) else None) ≡ None → (m : ℕ) → (m == 0) ≡ a → not (m % 1024 == 0) ≡ b → nat_lt (2 ^ 48) m ≡ c → (0 < m) × (m % 1024 ≡ 0) × (m ≤ 2 ^ 48)
+    tests true b c whole m x y z = absurd (cc)
+    tests false true c whole m x y z = absurd (cc)
+    tests false false true whole m x y z = absurd (cc)
+    tests false false false whole m x y z = (grind (arith, nat_tests), grind (arith, nat_tests), grind (arith, nat_tests))

@@ -24,9 +24,9 @@ asks_for_on {a} {b} {c} first next f g =
     }
 
 -- what stopped a later call is what it is seen from before
-pub is_stopped_before : {a b c : SourceView} (first : List ℕ) (n : ℕ) (found : ReadFault) → AsksFor a first b → IsStopped b n found c → IsStopped a n found c
-is_stopped_before {a} {b} {c} first n (Refused found) f stopped = (stopped.0, subst (λ (held : Option (List ℕ)). IfSome held (λ file. page_fault file n ≡ Some found)) f.same.held stopped.1)
-is_stopped_before {a} {b} {c} first n Source f stopped = rose_before a.faults b.faults c.faults f.faults stopped
+pub is_stopped_before : (a b c : SourceView) (first : List ℕ) (n : ℕ) (found : ReadFault) → AsksFor a first b → IsStopped b n found c → IsStopped a n found c
+is_stopped_before a b c first n (Refused found) f stopped = (stopped.0, subst (λ (held : Option (List ℕ)). IfSome held (λ file. page_fault file n ≡ Some found)) f.same.held stopped.1)
+is_stopped_before a b c first n Source f stopped = rose_before a.faults b.faults c.faults f.faults stopped
 
 -- an open file of this size has these pages
 pub has_page : (source : SourceView) (size n : ℕ) → source.size ≡ Some size → n < size / 1024 → HasPage source n

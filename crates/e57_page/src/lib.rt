@@ -2,6 +2,7 @@
 //! checksum word.
 #![tactic(auto)]
 
+mod fetch;
 mod header;
 mod pages;
 mod place;
