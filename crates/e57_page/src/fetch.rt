@@ -1,6 +1,6 @@
 //! Pages of a source: asked for, tested, kept.
 
-ghost use Rattle.std.specs.Prelude.{◌≡◌, ◌/◌, ℕ, Some, None, MatchResult};
+ghost use Rattle.std.specs.Prelude.{◌≡◌, ◌/◌, ℕ, Some, None, length, MatchResult};
 ghost use Rattle.e57_base.specs.Source.{HasPage};
 ghost use Rattle.e57_page.specs.File.{length_fault};
 ghost use Rattle.e57_page.specs.Pages.{IsOpened, IsNotOpened, IsScanned, IsScannedTo};
@@ -72,6 +72,7 @@ pub fn keep<S: Source>(
 ) -> Result<(), ReadFault>
     requires has { HasPage (S.view source.old) n }
     requires kept { IsKept (S.view source.old) number.old page.old }
+    ensures long { length page.new ≡ 1024 }
     ensures kept { IsKept (S.view source.new) number.new page.new }
     ensures pages { MatchResult result
         (λ _. (number.new ≡ n) × AsksAtMost (S.view source.old) n (S.view source.new))

@@ -5,6 +5,7 @@
 mod fetch;
 mod header;
 mod pages;
+mod piece;
 mod place;
 
 pub use header::Header;

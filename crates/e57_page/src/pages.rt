@@ -3,9 +3,11 @@
 ghost use Rattle.std.specs.Prelude.{◌≡◌, ◌+◌, ◌*◌, ◌/◌, ◌≤◌, ◌<◌, ℕ, Some, length, MatchResult};
 ghost use Rattle.e57_page.specs.File.{length_fault};
 ghost use Rattle.e57_page.specs.Pages.{IsOpened, IsNotOpened, ReadsRange, IsCutAt, IsScanned, IsScannedTo};
+ghost use Rattle.e57_page.specs.Fetch.{ReadsPiece, IsNotFetched};
 
-use crate::fetch::{fetch_first, scan};
+use crate::fetch::{fetch_first, keep, scan};
 use crate::header::Header;
+use crate::piece::{before_page, copy_piece, span_end, PAYLOAD};
 use e57_base::{Fault, Kind, ReadFault, Source};
 use std::marker::Model;
 
@@ -90,6 +92,11 @@ impl<S: Source> Pages<S> {
         self.length / 1024 * 1020
     }
 
+    /// Reads the logical bytes from place `at` on into `out`. The range lies in the logical bytes.
+    ///
+    /// Asks for pages of the range alone, in order, each at most once. A `Cut` says that the first page of the range
+    /// that failed (`Source`) or whose word is wrong (`Page`) stopped the read: the bytes of the range before that
+    /// page were read, and the rest of `out` is as it was. The value can be used afterwards as before.
     pub fn read(&mut self, at: u64, out: &mut [u8]) -> Result<(), Cut>
         requires { at + length out.old ≤ self.old.length / 1024 * 1020 }
         ensures length { self.new.length ≡ self.old.length }
@@ -98,10 +105,36 @@ impl<S: Source> Pages<S> {
             (λ _. ReadsRange (S.view self.old.source) at (length out.old) out.new (S.view self.new.source))
             (λ cut. (n : ℕ) × IsCutAt (S.view self.old.source) at out.old cut out.new n (S.view self.new.source)) }
     {
-        Err(Cut {
-            done: 0,
-            fault: ReadFault::Source,
-        })
+        let end = span_end(at, out.len(), self.logical_len());
+        for n in at / PAYLOAD..end {
+            if let Err(fault) = self.read_piece(n, at, out) {
+                return Err(Cut {
+                    done: before_page(n, at),
+                    fault,
+                });
+            }
+        }
+        Ok(())
+    }
+
+    /// Reads the bytes of the range from place `at` on that lie in page `n`, each to its place in `out`. After a
+    /// refusal `out` is as it was.
+    fn read_piece(&mut self, n: u64, at: u64, out: &mut [u8]) -> Result<(), ReadFault>
+        requires page { n < self.old.length / 1024 }
+        requires range { at + length out.old ≤ self.old.length / 1024 * 1020 }
+        requires reaches { at < 1020 * (n + 1) }
+        requires begins { 1020 * n < at + length out.old }
+        ensures length { self.new.length ≡ self.old.length }
+        ensures header { self.new.header ≡ self.old.header }
+        ensures piece { MatchResult result
+            (λ _. ReadsPiece (S.view self.old.source) at n out.old out.new (S.view self.new.source))
+            (λ fault. (out.new ≡ out.old) × IsNotFetched (S.view self.old.source) n fault (S.view self.new.source)) }
+    {
+        if let Err(fault) = keep(&mut self.source, n, &mut self.number, &mut self.page) {
+            return Err(fault);
+        }
+        copy_piece(&self.page, n, at, out);
+        Ok(())
     }
 
     /// Asks for each page in order, once, and tests its word, up to the first one that fails or is wrong. Answers
