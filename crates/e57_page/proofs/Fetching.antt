@@ -1,7 +1,6 @@
 -- What the bytes of a page tell of the file that they are of, where it is told.
-use Rattle.std.proofs.Common.{◌≡◌, ℕ, zero, suc, if◌then◌else◌, ◌&&◌, ◌==◌, not, codes, add-zero, zero-add, add-one, ◌+◌, ◌-◌, ◌*◌, ◌/◌, ◌<◌, ◌≤◌, Bool, true, false, List, [], ◌∷◌, ◌++◌, length, take, drop, Option, Some, None, IfSome, Result, refl, sym, ap, ◌∙◌, subst, arith}
+use Rattle.std.proofs.Common.{◌≡◌, ℕ, zero, suc, if◌then◌else◌, ◌&&◌, ◌==◌, not, codes, add-zero, zero-add, add-one, ◌+◌, ◌/◌, ◌<◌, Bool, true, false, List, [], ◌∷◌, ◌++◌, length, Option, Some, None, IfSome, Result, refl, sym, ap, ◌∙◌, subst, arith}
 use Rattle.std.specs.List.{range_with_len}
-use Rattle.std.specs.Option.{option_or}
 use Rattle.std.specs.Str.{bytes_eq}
 use Rattle.std.proofs.lemmas.Bool.{eqb-true, not-false}
 use Rattle.e57_base.specs.Source.{SourceView, ReadsPage, page_of}
@@ -16,7 +15,7 @@ use Rattle.e57_page.specs.File.{length_fault, page_fault, pages_fault, opening_f
 use Rattle.e57_page.specs.FileLaws.{whole_length, page_fault-right, page_fault-wrong, header_fault-page, header_of-page, pages_fault-zero, pages_fault-more}
 use Rattle.e57_page.specs.Pages.{AsksFor, IsScanned, IsScannedTo, is_opening_kind}
 use Rattle.e57_page.specs.PagesLaws.{asks_for_none, asks_for_on, is_stopped_before}
-use Rattle.e57_page.specs.Fetch.{IsKept, IsFetched, IsNotFetched}
+use Rattle.e57_page.specs.Fetch.{IsFetched, IsNotFetched}
 
 -- a read of a page asks for it
 pub asks_for_page : {T : Type 0} {old new : SourceView} {n : ℕ} {page : List ℕ} {result : Result T Failed} → ReadsPage old n page result new → AsksFor old (n ∷ []) new

@@ -1,17 +1,16 @@
 -- A range is read page by page.
-use Rattle.std.proofs.Common.{◌≡◌, ℕ, zero, suc, ◌+◌, ◌-◌, ◌*◌, ◌/◌, ◌<◌, ◌≤◌, min, List, [], ◌∷◌, ◌++◌, length, take, drop, Option, Some, None, IfSome, inl, inr, refl, sym, ap, ◌∙◌, subst, arith, length-take, length-drop, length-append}
+use Rattle.std.proofs.Common.{◌≡◌, ℕ, ◌+◌, ◌-◌, ◌*◌, ◌/◌, ◌<◌, ◌≤◌, min, List, [], ◌∷◌, ◌++◌, length, take, drop, Option, Some, None, IfSome, inl, inr, refl, sym, ap, ◌∙◌, subst, arith, length-take, length-drop}
 use Rattle.std.proofs.lemmas.List.{take-take, take_all, drop_all, take_at, drop_at, drop-drop, drop-take, take-append-drop, append-nil}
 use Rattle.std.proofs.lemmas.Bool.{cases_lt}
 use Rattle.std.proofs.lemmas.Bool.Decides.{nat_tests}
 use Rattle.std.proofs.lemmas.Slice.{drop-put_mid}
 use Rattle.e57_base.specs.Source.{SourceView, HoldsSize, page_of}
 use Rattle.e57_base.specs.declared.fault.ReadFault.{ReadFault}
-use Rattle.e57_page.specs.declared.pages.Cut.{Cut}
 use Rattle.e57_page.specs.Place.{RisesWithin, span_end}
 use Rattle.e57_page.specs.PlaceLaws.{rises_on}
 use Rattle.e57_page.specs.File.{logical, page_fault, pages_fault}
 use Rattle.e57_page.specs.FileLaws.{pages_fault-zero, pages_fault-more, logical-piece}
-use Rattle.e57_page.specs.Pages.{AsksFor, IsStopped, ReadsRange, IsCutAt}
+use Rattle.e57_page.specs.Pages.{AsksFor, ReadsRange, IsCutAt}
 use Rattle.e57_page.specs.PagesLaws.{asks_for_none, asks_for_on, is_stopped_before}
 use Rattle.e57_page.specs.Fetch.{IsKept, IsNotFetched, AsksAtMost, before_page, page_piece, with_part, SameBetween, ReadsPiece, HasRead}
 use Rattle.e57_page.proofs.Fetching.{told_right, told_later}
@@ -50,8 +49,8 @@ drop_on low high xs ys below rest =
 take_min_of : (m n : ℕ) (xs : List ℕ) → take m (take n xs) ≡ take (min m n) xs
 take_min_of m n xs =
     elim (cases_lt m n) [
-      inl below ↦ let least : min m n ≡ m = omega arith in rw least (take-take m n xs (omega arith))
-    | inr above ↦ let least : min m n ≡ n = omega arith in rw least (take_all m (take n xs) (rw length-take (omega arith)))
+      | inl below ↦ let least : min m n ≡ m = omega arith in rw least (take-take m n xs (omega arith))
+      | inr above ↦ let least : min m n ≡ n = omega arith in rw least (take_all m (take n xs) (rw length-take (omega arith)))
     ]
 
 -- where the part is as long as fits before `high` or before the end
@@ -59,8 +58,8 @@ with_part-between : (low high : ℕ) (part bytes : List ℕ) → low ≤ length 
 with_part-between low high part bytes fits long =
     rw (with_part-after low part bytes fits)
     (elim (cases_lt (length bytes) high) [
-      inl short ↦ let all : length bytes ≤ low + length part = omega arith in let end : length part ≤ high - low = omega arith in rw (drop_all (low + length part) bytes all, append-nil part) (take_all (high - low) part end)
-    | inr long_enough ↦ take_at part (drop (low + length part) bytes) (high - low) (omega arith)
+      | inl short ↦ let all : length bytes ≤ low + length part = omega arith in let end : length part ≤ high - low = omega arith in rw (drop_all (low + length part) bytes all, append-nil part) (take_all (high - low) part end)
+      | inr long_enough ↦ take_at part (drop (low + length part) bytes) (high - low) (omega arith)
     ])
 
 -- the same of the wanted bytes: they are those of page n
@@ -72,9 +71,9 @@ wanted_between file at n size below reaches begins =
     let whole : size ≡ before_page at n + (size - before_page at n) = omega arith in
     let place : at + before_page at n ≡ 1020 * n + (at - 1020 * n) = omega arith in
     let first : drop (before_page at n) (take size (drop at (logical file))) ≡ take (size - before_page at n) (drop (1020 * n + (at - 1020 * n)) (logical file)) =
-        ap (λ (k : ℕ). drop (before_page at n) (take k (drop at (logical file)))) whole
-        ∙ (drop-take (before_page at n) (size - before_page at n) (drop at (logical file))
-        ∙ ap (λ (xs : List ℕ). take (size - before_page at n) xs) (drop-drop (before_page at n) at (logical file) ∙ ap (λ (k : ℕ). drop k (logical file)) place))
+    ap (λ (k : ℕ). drop (before_page at n) (take k (drop at (logical file)))) whole
+    ∙ (drop-take (before_page at n) (size - before_page at n) (drop at (logical file))
+    ∙ ap (λ (xs : List ℕ). take (size - before_page at n) xs) (drop-drop (before_page at n) at (logical file) ∙ ap (λ (k : ℕ). drop k (logical file)) place))
     in
     rw (first, width, take_min_of (1020 - (at - 1020 * n)) (size - before_page at n) (drop (1020 * n + (at - 1020 * n)) (logical file)))
     (logical-piece file n (at - 1020 * n) (min (1020 - (at - 1020 * n)) (size - before_page at n)) below (omega arith))
@@ -153,16 +152,15 @@ has_read_more old mid new at n before between after begun long read piece =
     let same : mid.held ≡ old.held = read.source.2.same.held in
     let right : IfSome old.held (λ file. page_fault file n ≡ None) = subst (λ (held : Option (List ℕ)). IfSome held (λ file. page_fault file n ≡ None)) same piece.right in
     let bytes : IfSome old.held (λ file. SameBetween (before_page at n) (before_page at (n + 1)) after (take (length before) (drop at (logical file)))) =
-        subst (λ (size : ℕ). IfSome old.held (λ file. SameBetween (before_page at n) (before_page at (n + 1)) after (take size (drop at (logical file))))) long
-        (subst (λ (held : Option (List ℕ)). IfSome held (λ file. SameBetween (before_page at n) (before_page at (n + 1)) after (take (length between) (drop at (logical file))))) same piece.piece)
+    subst (λ (size : ℕ). IfSome old.held (λ file. SameBetween (before_page at n) (before_page at (n + 1)) after (take size (drop at (logical file))))) long
+    (subst (λ (held : Option (List ℕ)). IfSome held (λ file. SameBetween (before_page at n) (before_page at (n + 1)) after (take (length between) (drop at (logical file))))) same piece.piece)
     in
     record {
-      source =
-        (
-            read.source.0 ++ piece.source.0,
-            rises_on (at / 1020) n (n + 1) read.source.0 piece.source.0 begun (omega arith) read.source.1 piece.source.1,
-            asks_for_on read.source.0 piece.source.0 read.source.2 piece.source.2
-        );
+      source = (
+        read.source.0 ++ piece.source.0,
+        rises_on (at / 1020) n (n + 1) read.source.0 piece.source.0 begun (omega arith) read.source.1 piece.source.1,
+        asks_for_on read.source.0 piece.source.0 read.source.2 piece.source.2,
+      );
       right = told_right_more old.held (at / 1020) n begun read.right right;
       bytes = told_bytes_more old.held at n (length before) between after piece.front read.bytes bytes;
       rest = piece.rest ∙ drop_on (before_page at n) (before_page at (n + 1)) between before (omega arith) read.rest;

@@ -1,5 +1,5 @@
 -- What the steps of a read do: a page is asked for and tested, kept, and a piece of it is copied.
-use Rattle.std.specs.Prelude.{◌≡◌, ℕ, ◌+◌, ◌-◌, ◌*◌, ◌/◌, ◌<◌, min, Bool, true, List, [], ◌∷◌, ◌++◌, length, take, drop, Option, Some, None, IfSome}
+use Rattle.std.specs.Prelude.{◌≡◌, ℕ, ◌+◌, ◌-◌, ◌*◌, ◌/◌, min, true, List, [], ◌∷◌, ◌++◌, length, take, drop, Some, None, IfSome}
 use Rattle.e57_base.specs.Source.{SourceView, HasPage, page_of}
 use Rattle.e57_base.specs.declared.fault.ReadFault.{ReadFault}
 use Rattle.e57_crc.specs.Crc.{is_right}

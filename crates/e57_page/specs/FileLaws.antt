@@ -1,8 +1,8 @@
 -- Laws of a file's pages, its logical bytes and its faults.
-use Rattle.std.specs.Prelude.{◌≡◌, ℕ, zero, suc, ◌+◌, ◌-◌, ◌*◌, ◌/◌, ◌%◌, ◌^◌, ◌<◌, ◌≤◌, nat_lt, ◌==◌, ◌||◌, not, if◌then◌else◌, Bool, true, false, List, [], ◌∷◌, ◌++◌, length, take, drop, Option, Some, None}
+use Rattle.std.specs.Prelude.{◌≡◌, ℕ, zero, suc, ◌+◌, ◌-◌, ◌*◌, ◌/◌, ◌%◌, ◌^◌, ◌<◌, ◌≤◌, nat_lt, ◌==◌, ◌||◌, not, if◌then◌else◌, Bool, true, false, List, length, take, drop, Option, Some, None}
 use Rattle.std.specs.List.{flat_map, range_with_len}
 use Rattle.std.specs.Option.{option_or}
-use Rattle.std.proofs.Common.{lit≤, refl, sym, ap, ◌∙◌, arith, zero-add, add-zero, add-suc, add-one, length-append, length-take, length-drop}
+use Rattle.std.proofs.Common.{lit≤, refl, ◌∙◌, arith, zero-add, add-zero, add-one, length-append, length-take, length-drop}
 use Rattle.std.proofs.lemmas.Bool.Decides.{nat_tests}
 use Rattle.std.proofs.lemmas.List.{take-take, take-append-le, drop-append-le, drop-drop, drop_at, drop-take}
 use Rattle.e57_base.specs.declared.fault.Fault.{Fault}
@@ -116,8 +116,13 @@ page_fault-wrong file n wrong = rw wrong
 pub header_fault-page : (file : List ℕ) (size : ℕ) → header_fault (page_of file 0) size ≡ header_fault file size
 unfolding header_fault
 header_fault-page file size =
-    rw (take-take 8 1024 file (lit≤ tt), number-take file 1024 (8 * 8) 32 (lit≤ tt), number-take file 1024 (8 * 12) 32 (lit≤ tt),
-        number-take file 1024 (8 * 16) 64 (lit≤ tt), number-take file 1024 (8 * 40) 64 (lit≤ tt))
+    rw (
+      take-take 8 1024 file (lit≤ tt),
+      number-take file 1024 (8 * 8) 32 (lit≤ tt),
+      number-take file 1024 (8 * 12) 32 (lit≤ tt),
+      number-take file 1024 (8 * 16) 64 (lit≤ tt),
+      number-take file 1024 (8 * 40) 64 (lit≤ tt),
+    )
 
 pub header_of-page : (file : List ℕ) → header_of (page_of file 0) ≡ header_of file
 header_of-page file =

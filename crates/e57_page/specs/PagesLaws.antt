@@ -1,10 +1,8 @@
 -- Laws of the calls that read pages: one after another.
-use Rattle.std.specs.Prelude.{◌≡◌, ℕ, zero, suc, ◌+◌, ◌-◌, ◌*◌, ◌/◌, ◌<◌, ◌≤◌, Bool, true, false, List, [], ◌∷◌, ◌++◌, length, take, drop, Option, Some, None, IfSome, IsSomeAnd}
-use Rattle.std.specs.List.{range_with_len}
-use Rattle.std.proofs.Common.{refl, sym, ap, ◌∙◌, subst, arith, add-zero, zero-add, add-one}
-use Rattle.e57_base.specs.Count.{rose_before, rose_later, Rose}
-use Rattle.e57_base.specs.Source.{SourceView, SameFile, Asks, HasPage, same_file, same_file_on, asks_none, asks_on}
-use Rattle.e57_base.specs.declared.fault.Fault.{Fault}
+use Rattle.std.specs.Prelude.{◌≡◌, ℕ, ◌/◌, ◌<◌, List, [], ◌++◌, Option, Some, IfSome, IsSomeAnd}
+use Rattle.std.proofs.Common.{sym, subst, arith}
+use Rattle.e57_base.specs.Count.{rose_before}
+use Rattle.e57_base.specs.Source.{SourceView, HasPage, same_file, same_file_on, asks_none, asks_on}
 use Rattle.e57_base.specs.declared.fault.ReadFault.{ReadFault}
 use Rattle.e57_base.specs.declared.fault.ReadFault.TheVariants.{Refused, Source}
 use Rattle.e57_page.specs.File.{page_fault}

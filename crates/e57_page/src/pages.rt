@@ -7,7 +7,7 @@ ghost use Rattle.e57_page.specs.Fetch.{ReadsPiece, IsNotFetched};
 
 use crate::fetch::{fetch_first, keep, scan};
 use crate::header::Header;
-use crate::piece::{before_page, copy_piece, span_end, PAYLOAD};
+use crate::piece::{PAYLOAD, before_page, copy_piece, span_end};
 use e57_base::{Fault, Kind, ReadFault, Source};
 use std::marker::Model;
 

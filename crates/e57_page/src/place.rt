@@ -24,5 +24,4 @@ pub fn physical_of(logical: u64) -> u64
 #[tactic(auto, using(crate::specs::PlaceLaws::one_physical))]
 pub fn one_physical()
     ensures { (a b q : ℕ) → place a ≡ Some q → place b ≡ Some q → a ≡ b }
-{
-}
+{}

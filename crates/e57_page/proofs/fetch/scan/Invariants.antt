@@ -1,4 +1,3 @@
-use Rattle.std.proofs.Common.{ℕ}
 use Rattle.e57_page.specs.Pages.{IsScanned}
 use Rattle.e57_page.proofs.fetch.scan.Given as goal
 

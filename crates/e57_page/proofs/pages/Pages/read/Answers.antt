@@ -1,7 +1,5 @@
-use Rattle.std.proofs.Common.{◌≡◌, ◌<◌, ◌≤◌, ◌/◌, ◌*◌, ◌+◌, ◌-◌, length, refl, sym, ap, ◌∙◌, arith}
-use Rattle.e57_page.specs.Fetch.{before_page}
-use Rattle.e57_page.specs.Place.{span_end}
-use Rattle.e57_page.proofs.Pieces.{has_read_none, has_read_more, has_read_all, is_cut, page_short, page_within}
+use Rattle.std.proofs.Common.{refl, ◌∙◌}
+use Rattle.e57_page.proofs.Pieces.{has_read_none, has_read_more}
 use Rattle.e57_page.proofs.pages.Pages.read.Goals as goal
 
 pub loop-n-init : goal.loop-n-init

@@ -1,4 +1,4 @@
-use Rattle.std.proofs.Common.{◌≡◌, ℕ}
+use Rattle.std.proofs.Common.{◌≡◌}
 use Rattle.e57_page.specs.Fetch.{HasRead}
 use Rattle.e57_page.proofs.pages.Pages.read.Given as goal
 

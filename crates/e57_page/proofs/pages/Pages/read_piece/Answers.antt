@@ -1,4 +1,4 @@
-use Rattle.std.proofs.Common.{◌≡◌, ◌<◌, ◌/◌, sym, ap, subst, ◌∙◌, ℕ}
+use Rattle.std.proofs.Common.{◌≡◌, ◌<◌, ◌/◌, ap, subst, ℕ}
 use Rattle.e57_page.specs.Pages.{Reading}
 use Rattle.e57_page.specs.Fetch.{IsKept}
 use Rattle.e57_page.proofs.Pieces.{reads_piece}
