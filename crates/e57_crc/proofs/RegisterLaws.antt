@@ -1,11 +1,11 @@
 -- The register after some bits more.
 use Rattle.std.proofs.Common.{◌≡◌, ℕ, zero, suc, ◌+◌, ◌*◌, ◌/◌, ◌%◌, ◌^◌, ◌<◌, List, length, get_or, refl, sym, ap, ◌∙◌, arith, add-zero, add-suc, bit_xor}
-use Rattle.std.specs.Int.Bits.{xor_shr, xor_mod, xor_assoc, xor_comm, xor_zero_l, xor_zero_r, xor_shifted}
+use Rattle.std.specs.Int.Bits.{xor_shr, xor_mod, xor_assoc, xor_comm, xor_zero_r, xor_shifted}
 use Rattle.e57_bits.specs.Bits.{bit, number}
 use Rattle.e57_bits.specs.BitLaws.{bit-lt, number-zero, number-suc, number-lt, number-byte}
 use Rattle.e57_crc.specs.Crc.{shifted, register, crc}
 use Rattle.e57_crc.specs.Steps.{step, steps}
-use Rattle.e57_crc.proofs.StepLaws.{step-xor, steps-zero, steps-suc, steps-xor, steps-shifted}
+use Rattle.e57_crc.proofs.StepLaws.{steps-zero, steps-suc, steps-xor, steps-shifted}
 
 -- one bit goes in as if it had been in the register
 bit_goes_in : (r c : ℕ) → c < 2 → step (bit_xor r c) ≡ shifted r (bit_xor (r % 2) c)
@@ -45,11 +45,13 @@ register-byte b small i r s before e =
     let next : 8 * (i + 1) ≡ 8 * i + 8 = omega arith in
     rw (e, before, next, register-more b (8 * i) 8, number-byte b i (small i)) refl
 
--- the eight bytes from 8 * i on go in
-pub register-word : (b : List ℕ) (i r w s : ℕ) → r ≡ register b (8 * (8 * i)) → w ≡ number b (8 * (8 * i)) 64 → s ≡ steps 64 (bit_xor r w) → s ≡ register b (8 * (8 * (i + 1)))
-register-word b i r w s before word e =
-    let next : 8 * (8 * (i + 1)) ≡ 8 * (8 * i) + 64 = omega arith in
-    rw (e, before, word, next, register-more b (8 * (8 * i)) 64) refl
+-- the eight bytes from 8 * i on go in, as two words
+pub register-words : (b : List ℕ) (i r low high s : ℕ) → r ≡ register b (8 * (8 * i)) → low ≡ number b (8 * (8 * i)) 32 → high ≡ number b (8 * (8 * i + 4)) 32
+    → s ≡ steps 32 (bit_xor (steps 32 (bit_xor r low)) high) → s ≡ register b (8 * (8 * (i + 1)))
+register-words b i r low high s before first second e =
+    let middle : 8 * (8 * i + 4) ≡ 8 * (8 * i) + 32 = omega arith in
+    let next : 8 * (8 * (i + 1)) ≡ 8 * (8 * i) + 32 + 32 = omega arith in
+    rw (e, before, first, second, middle, next, register-more b (8 * (8 * i) + 32) 32, register-more b (8 * (8 * i)) 32) refl
 
 pub crc-is : (b : List ℕ) → crc b ≡ bit_xor (register b (8 * length b)) 4294967295
 unfolding crc

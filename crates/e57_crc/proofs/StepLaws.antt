@@ -1,7 +1,7 @@
 -- Steps are linear, and a number that is shifted left by j comes back after j steps.
 use Rattle.std.proofs.Common.{◌≡◌, ℕ, zero, suc, ◌+◌, ◌*◌, ◌/◌, ◌%◌, ◌^◌, ◌<◌, refl, sym, ap, ◌∙◌, arith, zero-add, bit_and, bit_xor}
-use Rattle.std.proofs.Math.Nat.{pow-suc, div-add-mod', div-div-eq-div-mul}
-use Rattle.std.specs.Int.Bits.{and_mask, xor_shr, xor_mod, xor_assoc, xor_comm, xor_zero_r, xor_shifted}
+use Rattle.std.proofs.Math.Nat.{pow-suc, div-add-mod', div-div-eq-div-mul, div-one}
+use Rattle.std.specs.Int.Bits.{and_mask, xor_zero_l, xor_shr, xor_mod, xor_assoc, xor_comm, xor_zero_r, xor_shifted}
 use Rattle.e57_crc.specs.Crc.{shifted}
 use Rattle.e57_crc.specs.Steps.{step, steps}
 
@@ -73,34 +73,33 @@ steps-byte k y =
     ∙ xor_comm (steps k (y / 256)) (steps (k + 8) (y % 256))
 
 -- the lowest byte of y / d goes in, beside what others gave
-byte_beside : (k d y others : ℕ) → bit_xor others (steps (k + 8) (y / d)) ≡ bit_xor (bit_xor others (steps (k + 8) (bit_and (y / d) 255))) (steps k (y / (d * 256)))
-byte_beside k d y others =
-    rw (steps-byte k (y / d), ← and_mask (y / d) 8, div-div-eq-div-mul y d 256)
+byte_beside : (j k d y others : ℕ) → j ≡ k + 8 → bit_xor others (steps j (y / d)) ≡ bit_xor (bit_xor others (steps j (bit_and (y / d) 255))) (steps k (y / (d * 256)))
+byte_beside j k d y others e =
+    rw (e, steps-byte k (y / d), ← and_mask (y / d) 8, div-div-eq-div-mul y d 256)
     (sym (xor_assoc others (steps (k + 8) (bit_and (y / d) 255)) (steps k (y / (d * 256)))))
 
 -- a register of one byte
-pub after_one : (y r : ℕ) → r ≡ steps 8 (bit_and y 255) → bit_xor r (y / 256) ≡ steps 8 y
-after_one y r e = rw (e, and_mask y 8, steps-byte 0 y, steps-zero (y / 256)) refl
+pub after_byte-looked_up : (y r : ℕ) → r ≡ steps 8 (bit_and y 255) → bit_xor r (y / 256) ≡ steps 8 y
+after_byte-looked_up y r e = rw (e, and_mask y 8, steps-byte 0 y, steps-zero (y / 256)) refl
 
--- a register of eight bytes, of which each goes its own way
-pub after_eight : (y a b c d e f g h : ℕ)
-    → a ≡ steps 64 (bit_and y 255)
-    → b ≡ steps 56 (bit_and (y / 2 ^ 8) 255)
-    → c ≡ steps 48 (bit_and (y / 2 ^ 16) 255)
-    → d ≡ steps 40 (bit_and (y / 2 ^ 24) 255)
-    → e ≡ steps 32 (bit_and (y / 2 ^ 32) 255)
-    → f ≡ steps 24 (bit_and (y / 2 ^ 40) 255)
-    → g ≡ steps 16 (bit_and (y / 2 ^ 48) 255)
-    → h ≡ steps 8 (y / 2 ^ 56)
-    → bit_xor (bit_xor (bit_xor (bit_xor (bit_xor (bit_xor (bit_xor a b) c) d) e) f) g) h ≡ steps 64 y
-after_eight y a b c d e f g h pa pb pc pd pe pf pg ph =
-    rw (pa, pb, pc, pd, pe, pf, pg, ph)
+-- a register of four bytes, of which each goes its own way
+pub after_four-looked_up : (z y a b c d : ℕ)
+    → a ≡ steps (8 * (z + 3 + 1)) (bit_and y 255)
+    → b ≡ steps (8 * (z + 2 + 1)) (bit_and (y / 2 ^ 8) 255)
+    → c ≡ steps (8 * (z + 1 + 1)) (bit_and (y / 2 ^ 16) 255)
+    → d ≡ steps (8 * (z + 1)) (y / 2 ^ 24)
+    → bit_xor (bit_xor (bit_xor a b) c) d ≡ steps (8 * (z + 4)) y
+after_four-looked_up z y a b c d pa pb pc pd =
+    let width : 8 * (z + 4) ≡ 8 * (z + 3 + 1) = omega arith in
+    rw (width, pa, pb, pc, pd)
     (sym
-    (steps-byte 56 y
-    ∙ ap (λ x. bit_xor (steps 64 x) (steps 56 (y / 256))) (sym (and_mask y 8))
-    ∙ byte_beside 48 (2 ^ 8) y _
-    ∙ byte_beside 40 (2 ^ 16) y _
-    ∙ byte_beside 32 (2 ^ 24) y _
-    ∙ byte_beside 24 (2 ^ 32) y _
-    ∙ byte_beside 16 (2 ^ 40) y _
-    ∙ byte_beside 8 (2 ^ 48) y _))
+    (ap (steps (8 * (z + 3 + 1))) (sym (div-one y))
+    ∙ sym (xor_zero_l (steps (8 * (z + 3 + 1)) (y / 1)))
+    ∙ byte_beside (8 * (z + 3 + 1)) (8 * (z + 2 + 1)) 1 y 0 (omega arith)
+    ∙ ap (λ x. bit_xor x (steps (8 * (z + 2 + 1)) (y / 2 ^ 8))) (xor_zero_l (steps (8 * (z + 3 + 1)) (bit_and (y / 1) 255)) ∙ ap (λ x. steps (8 * (z + 3 + 1)) (bit_and x 255)) (div-one y))
+    ∙ byte_beside (8 * (z + 2 + 1)) (8 * (z + 1 + 1)) (2 ^ 8) y _ (omega arith)
+    ∙ byte_beside (8 * (z + 1 + 1)) (8 * (z + 1)) (2 ^ 16) y _ (omega arith)))
+
+-- eight bytes as two words: the first of them, x, has 32 steps more before it
+pub steps-two_words : (x y : ℕ) → bit_xor (steps 32 y) (steps 64 x) ≡ steps 32 (bit_xor (steps 32 x) y)
+steps-two_words x y = rw (steps-xor 32 (steps 32 x) y, ← steps-add 32 32 x) (xor_comm (steps 32 y) (steps 64 x))

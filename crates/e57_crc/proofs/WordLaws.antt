@@ -1,5 +1,5 @@
 -- The word of a page in both byte orders.
-use Rattle.std.proofs.Common.{◌≡◌, ℕ, ◌+◌, ◌*◌, ◌-◌, ◌<◌, Bool, ◌==◌, ◌||◌, true, false, List, length, get_or, take, drop, reverse, refl, sym, ap, ◌∙◌, arith, length-drop, lit<, ◌≤◌, ◌⊎◌, inl, inr, eq-eqb, ne_eqb}
+use Rattle.std.proofs.Common.{◌≡◌, ℕ, ◌+◌, ◌*◌, ◌-◌, ◌<◌, ◌==◌, ◌||◌, true, false, List, length, get_or, take, drop, reverse, refl, sym, ap, ◌∙◌, arith, length-drop, lit<, ◌≤◌, ◌⊎◌, inl, inr, eq-eqb, ne_eqb}
 use Rattle.std.proofs.lemmas.Bool.{cases_lt}
 use Rattle.std.specs.Int.{swap_bytes, w32}
 use Rattle.std.proofs.lemmas.List.{get_or-reverse, length-reverse, get_or-drop, get_or_past}

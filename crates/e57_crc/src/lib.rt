@@ -7,10 +7,8 @@ ghost use Rattle.std.specs.Prelude.{◌≡◌, ◌+◌, ◌*◌, ◌≤◌, leng
 ghost use Rattle.e57_crc.specs.Crc.{crc, is_right, register};
 ghost use Rattle.e57_crc.specs.Steps.{steps};
 
-use crate::tables::{
-    after_8, after_16, after_24, after_32, after_40, after_48, after_56, after_64,
-};
-use e57_bits::{u32_at, u64_at};
+use crate::tables::looked_up;
+use e57_bits::u32_at;
 
 /// The payload of a page in bytes; its checksum word follows.
 const PAYLOAD: usize = 1020;
@@ -19,12 +17,14 @@ const PAYLOAD: usize = 1020;
 pub fn crc32c(bytes: &[u8]) -> u32
     ensures { result ≡ crc bytes.now }
 {
-    let words = bytes.len() / 8;
+    let eights = bytes.len() / 8;
     let mut so_far = u32::MAX;
-    for i in 0..words {
-        so_far = after_word(so_far, u64_at(bytes, 8 * i));
+    for i in 0..eights {
+        let low = u32_at(bytes, 8 * i);
+        let high = u32_at(bytes, 8 * i + 4);
+        so_far = after_words(so_far, low, high);
     }
-    after_rest(so_far, bytes, 8 * words) ^ u32::MAX
+    after_rest(so_far, bytes, 8 * eights) ^ u32::MAX
 }
 
 /// Whether the page's word is the checksum of its 1020 bytes of payload, in one byte order or the
@@ -38,19 +38,23 @@ pub fn word_right(page: &[u8; 1024]) -> bool
     stored == checksum || stored.swap_bytes() == checksum
 }
 
-/// The register `start` after the eight bytes of a word.
-fn after_word(start: u32, word: u64) -> u32
-    ensures { result ≡ steps 64 (bit_xor start word) }
+/// The register `start` after eight bytes, the words `low` and `high`.
+fn after_words(start: u32, low: u32, high: u32) -> u32
+    ensures { result ≡ steps 32 (bit_xor (steps 32 (bit_xor start low)) high) }
 {
-    let mixed = start as u64 ^ word;
-    after_64((mixed & 0xff) as u8)
-        ^ after_56((mixed >> 8 & 0xff) as u8)
-        ^ after_48((mixed >> 16 & 0xff) as u8)
-        ^ after_40((mixed >> 24 & 0xff) as u8)
-        ^ after_32((mixed >> 32 & 0xff) as u8)
-        ^ after_24((mixed >> 40 & 0xff) as u8)
-        ^ after_16((mixed >> 48 & 0xff) as u8)
-        ^ after_8((mixed >> 56) as u8)
+    after_four(high, 0) ^ after_four(start ^ low, 4)
+}
+
+/// The register `word` after its own 32 bits and then `zeros` bytes 0, at most four of them.
+#[inline]
+fn after_four(word: u32, zeros: usize) -> u32
+    requires { zeros ≤ 4 }
+    ensures { result ≡ steps (8 * (zeros + 4)) word }
+{
+    looked_up((word & 0xff) as u8, zeros + 3)
+        ^ looked_up((word >> 8 & 0xff) as u8, zeros + 2)
+        ^ looked_up((word >> 16 & 0xff) as u8, zeros + 1)
+        ^ looked_up((word >> 24) as u8, zeros)
 }
 
 /// The register `start` after one byte.
@@ -58,7 +62,7 @@ fn after_byte(start: u32, byte: u8) -> u32
     ensures { result ≡ steps 8 (bit_xor start byte) }
 {
     let mixed = start ^ byte as u32;
-    after_8((mixed & 0xff) as u8) ^ (mixed >> 8)
+    looked_up((mixed & 0xff) as u8, 0) ^ (mixed >> 8)
 }
 
 /// The register `start`, where the bytes before `from` have gone in, after the rest of them.

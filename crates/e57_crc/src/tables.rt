@@ -1,9 +1,10 @@
-//! The registers 0 to 255 after 8, 16, .. 64 steps. Only the functions at the end index the tables.
+//! Eight tables of 256 registers each, one after another. Only `looked_up` indexes them.
 
-ghost use Rattle.std.specs.Prelude.{◌≡◌};
+ghost use Rattle.std.specs.Prelude.{◌≡◌, ◌+◌, ◌*◌, ◌<◌};
 ghost use Rattle.e57_crc.specs.Steps.{steps};
 
-const TABLE_8: [u32; 256] = [
+/// At `256 * zeros + byte`: the register `byte` after 8 steps, and 8 more for each of `zeros` bytes.
+const TABLES: [u32; 2048] = [
     0x0000_0000,
     0xf26b_8303,
     0xe13b_70f7,
@@ -260,9 +261,6 @@ const TABLE_8: [u32; 256] = [
     0x4c46_23a6,
     0x5f16_d052,
     0xad7d_5351,
-];
-
-const TABLE_16: [u32; 256] = [
     0x0000_0000,
     0x13a2_9877,
     0x2745_30ee,
@@ -519,9 +517,6 @@ const TABLE_16: [u32; 256] = [
     0x84a6_146d,
     0xb041_bcf4,
     0xa3e3_2483,
-];
-
-const TABLE_24: [u32; 256] = [
     0x0000_0000,
     0xa541_927e,
     0x4f6f_520d,
@@ -778,9 +773,6 @@ const TABLE_24: [u32; 256] = [
     0xde6a_79a5,
     0x3444_b9d6,
     0x9105_2ba8,
-];
-
-const TABLE_32: [u32; 256] = [
     0x0000_0000,
     0xdd45_aab8,
     0xbf67_2381,
@@ -1037,9 +1029,6 @@ const TABLE_32: [u32; 256] = [
     0x9764_cbc3,
     0xf546_42fa,
     0x2803_e842,
-];
-
-const TABLE_40: [u32; 256] = [
     0x0000_0000,
     0x3811_6fac,
     0x7022_df58,
@@ -1296,9 +1285,6 @@ const TABLE_40: [u32; 256] = [
     0xd04a_b1fb,
     0x9879_010f,
     0xa068_6ea3,
-];
-
-const TABLE_48: [u32; 256] = [
     0x0000_0000,
     0xef30_6b19,
     0xdb8c_a0c3,
@@ -1555,9 +1541,6 @@ const TABLE_48: [u32; 256] = [
     0x6a37_8eff,
     0x5e8b_4525,
     0xb1bb_2e3c,
-];
-
-const TABLE_56: [u32; 256] = [
     0x0000_0000,
     0x6803_2cc8,
     0xd006_5990,
@@ -1814,9 +1797,6 @@ const TABLE_56: [u32; 256] = [
     0xad17_64df,
     0x1512_1187,
     0x7d11_3d4f,
-];
-
-const TABLE_64: [u32; 256] = [
     0x0000_0000,
     0x493c_7d27,
     0x9278_fa4e,
@@ -2075,58 +2055,10 @@ const TABLE_64: [u32; 256] = [
     0x1f15_30a5,
 ];
 
-/// The register `byte` after 8 steps.
-pub fn after_8(byte: u8) -> u32
-    ensures { result ≡ steps 8 byte }
+/// The register `byte` after its own 8 bits and then `zeros` bytes 0, below eight of them.
+pub fn looked_up(byte: u8, zeros: usize) -> u32
+    requires { zeros < 8 }
+    ensures { result ≡ steps (8 * (zeros + 1)) byte }
 {
-    TABLE_8[byte as usize]
-}
-
-/// The register `byte` after 16 steps.
-pub fn after_16(byte: u8) -> u32
-    ensures { result ≡ steps 16 byte }
-{
-    TABLE_16[byte as usize]
-}
-
-/// The register `byte` after 24 steps.
-pub fn after_24(byte: u8) -> u32
-    ensures { result ≡ steps 24 byte }
-{
-    TABLE_24[byte as usize]
-}
-
-/// The register `byte` after 32 steps.
-pub fn after_32(byte: u8) -> u32
-    ensures { result ≡ steps 32 byte }
-{
-    TABLE_32[byte as usize]
-}
-
-/// The register `byte` after 40 steps.
-pub fn after_40(byte: u8) -> u32
-    ensures { result ≡ steps 40 byte }
-{
-    TABLE_40[byte as usize]
-}
-
-/// The register `byte` after 48 steps.
-pub fn after_48(byte: u8) -> u32
-    ensures { result ≡ steps 48 byte }
-{
-    TABLE_48[byte as usize]
-}
-
-/// The register `byte` after 56 steps.
-pub fn after_56(byte: u8) -> u32
-    ensures { result ≡ steps 56 byte }
-{
-    TABLE_56[byte as usize]
-}
-
-/// The register `byte` after 64 steps.
-pub fn after_64(byte: u8) -> u32
-    ensures { result ≡ steps 64 byte }
-{
-    TABLE_64[byte as usize]
+    TABLES[256 * zeros + byte as usize]
 }

@@ -1,4 +1,4 @@
-use Rattle.std.proofs.Common.{◌≡◌, ◌∙◌, ap, take, drop}
+use Rattle.std.proofs.Common.{◌∙◌, ap, take, drop}
 use Rattle.e57_bits.specs.Bits.{number}
 use Rattle.e57_crc.specs.Crc.{crc}
 use Rattle.e57_crc.proofs.WordLaws.{one_order, other_order}
