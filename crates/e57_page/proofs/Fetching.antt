@@ -57,30 +57,31 @@ first_of_four-third false true l p major minor size stated page_size none = cc
 first_of_four-third false false true p major minor size stated page_size none = cc
 first_of_four-third false false false p major minor size stated page_size none = refl
 
--- the tests of a header
+-- what is wrong with a header
 module _ (page : List ℕ) (size : ℕ) where
-  abbrev s : Bool
-  s = not (bytes_eq (signature page) (codes "ASTM-E57"))
+  abbrev wrong_signature : Bool
+  wrong_signature = not (bytes_eq (signature page) (codes "ASTM-E57"))
 
-  abbrev v : Bool
-  v = not (major_version page == 1 && minor_version page == 0)
+  abbrev wrong_version : Bool
+  wrong_version = not (major_version page == 1 && minor_version page == 0)
 
-  abbrev l : Bool
-  l = not (physical_length page == size)
+  abbrev wrong_length : Bool
+  wrong_length = not (physical_length page == size)
 
-  abbrev p : Bool
-  p = not (page_size page == 1024)
+  abbrev wrong_page_size : Bool
+  wrong_page_size = not (page_size page == 1024)
 
   -- a fault of a header has a kind that page 0 can have
   pub header_kind : (found : Fault) → header_fault page size ≡ Some found → is_opening_kind found.kind ≡ true
   unfolding header_fault
-  header_kind found is = first_of_four-kind s v l p (major_version page) (minor_version page) size (physical_length page) (page_size page) found is
+  header_kind found is =
+      first_of_four-kind wrong_signature wrong_version wrong_length wrong_page_size (major_version page) (minor_version page) size (physical_length page) (page_size page) found is
 
   -- a header with no fault has the file's length
   pub header_length : (header : Header) → header_fault page size ≡ None → header ≡ header_of page → header.length ≡ size
   unfolding header_fault
   header_length header none is =
-      let third : l ≡ false = first_of_four-third s v l p (major_version page) (minor_version page) size (physical_length page) (page_size page) none in
+      let third = first_of_four-third wrong_signature wrong_version wrong_length wrong_page_size (major_version page) (minor_version page) size (physical_length page) (page_size page) none in
       ap (λ (h : Header). h.length) is ∙ eqb-true (physical_length page) size (not-false (physical_length page == size) third)
 
 -- page 0 of a file, its header first

@@ -39,6 +39,16 @@ pages_fault-more file n (suc count) before last =
     let rest : pages_fault file (n + 1) (count + 1) ≡ None = pages_fault-more file (n + 1) count both.1 (rw place at last) in
     rw (add-one (suc count), pages_fault-suc file n (suc count), both.0, ← add-one count, rest)
 
+-- of some pages that have no fault, and then others, the first fault is that of the others
+pub pages_fault-on : (file : List ℕ) (n before count : ℕ) (outcome : Option Fault) → pages_fault file n before ≡ None → pages_fault file (n + before) count ≡ outcome → pages_fault file n (before + count) ≡ outcome
+pages_fault-on file n zero count outcome none after = rw zero-add (rw add-zero at after)
+pages_fault-on file n (suc before) count outcome none after =
+    let both = or_none (page_fault file n) (pages_fault file (n + 1) before) (rw pages_fault-suc at none) in
+    let place : n + suc before ≡ n + 1 + before = omega arith in
+    let more : suc before + count ≡ suc (before + count) = omega arith in
+    rw (more, pages_fault-suc file n (before + count), both.0)
+    (pages_fault-on file (n + 1) before count outcome both.1 (rw place at after))
+
 -- the first fault of some pages is that of the first one that has a fault
 pub pages_fault-found : (file : List ℕ) (n before count : ℕ) (found : Fault) → pages_fault file n before ≡ None → page_fault file (n + before) ≡ Some found → before < count → pages_fault file n count ≡ Some found
 pages_fault-found file n before zero found none last below = absurd (omega arith)

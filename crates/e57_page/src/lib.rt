@@ -11,3 +11,6 @@ mod place;
 pub use header::Header;
 pub use pages::{Cut, Pages};
 pub use place::{one_physical, physical_of, place_of};
+
+#[cfg(test)]
+mod tests;

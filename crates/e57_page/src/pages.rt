@@ -105,8 +105,9 @@ impl<S: Source> Pages<S> {
             (λ _. ReadsRange (S.view self.old.source) at (length out.old) out.new (S.view self.new.source))
             (λ cut. (n : ℕ) × IsCutAt (S.view self.old.source) at out.old cut out.new n (S.view self.new.source)) }
     {
-        let end = span_end(at, out.len(), self.logical_len());
-        for n in at / PAYLOAD..end {
+        let limit = self.logical_len();
+        prove!(at <= limit);
+        for n in at / PAYLOAD..span_end(at, out.len()) {
             if let Err(fault) = self.read_piece(n, at, out) {
                 return Err(Cut {
                     done: before_page(n, at),

@@ -7,9 +7,9 @@ ghost use Rattle.e57_page.specs.Fetch.{page_piece, with_part};
 /// The logical bytes of a page.
 pub const PAYLOAD: u64 = 1020;
 
-/// The first page behind the range of `count` logical bytes from place `at` on, in a file of `limit` logical bytes.
-pub fn span_end(at: u64, count: usize, limit: u64) -> u64
-    requires { at + count ≤ limit }
+/// The first page behind the range of `count` logical bytes from place `at` on.
+pub fn span_end(at: u64, count: usize) -> u64
+    requires { at + count < 2 ^ 64 }
     ensures { result ≡ the_span_end at count }
 {
     let count = count as u64;
