@@ -1,5 +1,5 @@
 -- An open file as contracts see it, and what the calls that read its pages answer and do to the source.
-use Rattle.std.specs.Prelude.{◌≡◌, ℕ, ◌+◌, ◌-◌, ◌*◌, ◌/◌, ◌<◌, ◌≤◌, Bool, true, false, List, [], ◌∷◌, ◌++◌, length, take, drop, Option, Some, None, IfSome, MatchOption, Result, Ok, Err}
+use Rattle.std.specs.Prelude.{◌≡◌, ℕ, ◌+◌, ◌-◌, ◌*◌, ◌/◌, ◌<◌, ◌≤◌, Bool, true, false, List, [], ◌∷◌, ◌++◌, length, take, drop, Some, None, IfSome, MatchOption}
 use Rattle.std.specs.List.{range_with_len}
 use Rattle.e57_base.specs.Count.{Rose}
 use Rattle.e57_base.specs.Source.{SourceView, SameFile, Asks}
