@@ -91,3 +91,7 @@ number-low_bits b i (suc w) h =
 -- eight bits from the start of a byte are that byte
 pub number-byte : (b : List ℕ) (i : ℕ) → get_or b i 0 < 256 → number b (8 * i) 8 ≡ get_or b i 0
 number-byte b i h = number-low_bits b i 8 (lit≤ tt) ∙ mod-eq_of_lt h
+
+-- byte i is the lowest of the number that begins there
+pub number-byte_first : (b : List ℕ) (i w : ℕ) → get_or b i 0 < 256 → number b (8 * i) (8 + w) ≡ get_or b i 0 + 256 * number b (8 * i + 8) w
+number-byte_first b i w h = rw (number-split b (8 * i) 8 w, number-byte b i h) refl
