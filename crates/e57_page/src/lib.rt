@@ -2,10 +2,11 @@
 //! checksum word.
 #![tactic(auto)]
 
+mod fetch;
 mod header;
 mod pages;
 mod place;
 
 pub use header::Header;
 pub use pages::{Cut, Pages};
-pub use place::{physical_of, place_of};
+pub use place::{one_physical, physical_of, place_of};

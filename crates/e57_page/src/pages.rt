@@ -1,10 +1,12 @@
 //! The pages of an open file.
 
 ghost use Rattle.std.specs.Prelude.{◌≡◌, ◌+◌, ◌*◌, ◌/◌, ◌≤◌, ◌<◌, ℕ, Some, length, MatchResult};
+ghost use Rattle.e57_page.specs.File.{length_fault};
 ghost use Rattle.e57_page.specs.Pages.{IsOpened, IsNotOpened, ReadsRange, IsCutAt, IsScanned, IsScannedTo};
 
+use crate::fetch::{fetch_first, scan};
 use crate::header::Header;
-use e57_base::{ReadFault, Source};
+use e57_base::{Fault, Kind, ReadFault, Source};
 use std::marker::Model;
 
 /// A read that stopped at a page that failed or is wrong.
@@ -16,32 +18,55 @@ pub struct Cut {
     pub fault: ReadFault,
 }
 
-/// An open file whose length, header and first page are right.
+/// An open file whose length, header and first page are right (ASTM E2807, physical layout: pages of 1024 bytes).
+///
+/// It keeps the page that it read last. No byte of a page with a wrong word is ever given.
 #[derive(Drop)]
 pub struct Pages<S: Source> {
     source: S,
     length: u64,
     header: Header,
+    number: u64,
     page: [u8; 1024],
-    number: Option<u64>,
 }
 
 impl<S: Source> Model for Pages<S> {
     ghost use Rattle.e57_page.specs.Pages.{Reading};
+    ghost use Rattle.e57_page.specs.Fetch.{IsSound};
 
     ghost Value = { Reading S };
 
     ghost view = { λ p. record { source = p.source; length = p.length; header = p.header } };
+
+    ghost invariant = { λ p. IsSound (S.view p.source) p.length p.header p.number p.page };
 }
 
 impl<S: Source> Pages<S> {
-    pub fn open(source: S, length: u64) -> Result<Pages<S>, (S, ReadFault)>
+    /// Opens the file that is open in `source`, of `length` bytes. Asks for no page but page 0, once.
+    ///
+    /// Refuses, in this order, and gives the source back: `FileLength` where the length is 0, no multiple of 1024 or
+    /// above 2^48 bytes, before anything is asked for; `Source` where the source failed; what `Header::read` refuses;
+    /// `Page` where the word of page 0 is wrong.
+    pub fn open(mut source: S, length: u64) -> Result<Pages<S>, (S, ReadFault)>
         requires { (S.view source).size ≡ Some length }
         ensures { MatchResult result
             (λ pages. IsOpened (S.view source) length pages.length pages.header (S.view pages.source))
             (λ refusal. IsNotOpened (S.view source) length refusal.1 (S.view refusal.0)) }
     {
-        Err((source, ReadFault::Source))
+        if let Some(fault) = judge_length(length) {
+            return Err((source, ReadFault::Refused(fault)));
+        }
+        let mut page = [0; 1024];
+        match fetch_first(&mut source, length, &mut page) {
+            Ok(header) => Ok(Pages {
+                source,
+                length,
+                header,
+                number: 0,
+                page,
+            }),
+            Err(fault) => Err((source, fault)),
+        }
     }
 
     /// Gives the source back. It calls nothing on the source.
@@ -51,6 +76,7 @@ impl<S: Source> Pages<S> {
         self.source
     }
 
+    /// The numbers of the file's header.
     pub fn header(&self) -> &Header
         ensures { result.now ≡ self.now.header }
     {
@@ -78,6 +104,10 @@ impl<S: Source> Pages<S> {
         })
     }
 
+    /// Asks for each page in order, once, and tests its word, up to the first one that fails or is wrong. Answers
+    /// the number of pages.
+    ///
+    /// Refuses `Source` where the source failed, and `Page` for the first page whose word is wrong.
     pub fn scan(&mut self) -> Result<u64, ReadFault>
         ensures length { self.new.length ≡ self.old.length }
         ensures header { self.new.header ≡ self.old.header }
@@ -86,6 +116,20 @@ impl<S: Source> Pages<S> {
             (λ count. IsScanned (S.view self.old.source) count (S.view self.new.source))
             (λ fault. (n : ℕ) × IsScannedTo (S.view self.old.source) (self.old.length / 1024) fault n (S.view self.new.source)) }
     {
-        Err(ReadFault::Source)
+        let length = self.length;
+        scan(&mut self.source, length)
     }
+}
+
+/// The fault of a length in bytes: it is 0, no multiple of 1024 or above 2^48.
+#[tactic(auto, unfolding(crate::specs::File::length_fault))]
+fn judge_length(length: u64) -> Option<Fault>
+    ensures { result ≡ length_fault length }
+{
+    let wrong = length == 0 || length % 1024 != 0 || length > 1 << 48;
+    wrong.then_some(Fault {
+        kind: Kind::FileLength,
+        a: length,
+        b: 0,
+    })
 }
