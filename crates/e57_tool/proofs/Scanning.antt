@@ -36,13 +36,13 @@ by_page a (Some x) c d found f e = e
 -- a fault of the opening is the first one
 opening_is : (file : List ℕ) (found : Fault) → opening_fault file ≡ Some found → pages_verdict file ≡ Some found
 opening_is file found e = elim (length_fault (length file)) as (λ (l : Option Fault). length_fault (length file) ≡ l → option_or l (option_or (header_fault file (length file)) (page_fault file 0)) ≡ Some found → option_or l (option_or (header_fault file (length file)) (pages_fault file 0 (length file / 1024))) ≡ Some found) [
-    | None ↦ λ none first.
-        let whole = whole_length (length file) none in
-        by_page None (header_fault file (length file)) (page_fault file 0) (pages_fault file 0 (length file / 1024)) found
-        (λ page. pages_fault-found file 0 0 (length file / 1024) found (pages_fault-zero file 0) page (omega (arith, whole.0, whole.1)))
-        first
-    | Some x ↦ λ some first. first
-  ] refl e
+  | None ↦ λ none first.
+      let whole = whole_length (length file) none in
+      by_page None (header_fault file (length file)) (page_fault file 0) (pages_fault file 0 (length file / 1024)) found
+      (λ page. pages_fault-found file 0 0 (length file / 1024) found (pages_fault-zero file 0) page (omega (arith, whole.0, whole.1)))
+      first
+  | Some x ↦ λ some first. first
+] refl e
 
 -- the held file has the length that was told
 length_told : (held : Option (List ℕ)) (size : Option ℕ) (n : ℕ) → size ≡ Some n → IfSome held (λ file. size ≡ Some (length file)) → IfSome held (λ file. length file ≡ n)
@@ -81,21 +81,21 @@ pub record IsVerdict (mid : SourceView) (found : Fault) (new : SourceView) : Typ
 
 pub opening_verdict : (mid new : SourceView) (size : ℕ) (found : Fault) → HoldsSize mid → mid.size ≡ Some size → IsNotOpened mid size (Refused found) new → IsVerdict mid found new
 opening_verdict mid new size found holds known refused = elim (length_fault size) as (λ (l : Option Fault). length_fault size ≡ l → MatchOption l (IsRefusedByPage mid found new) (λ wrong. (found ≡ wrong) × AsksFor mid [] new) → IsVerdict mid found new) [
-    | None ↦ λ none page. record {
-        same = page.source.same;
-        faults = page.source.faults;
-        kind = page.kind;
-        first = told_here _ mid.held new.held page.source.same.held (told_map (λ file. opening_fault file ≡ Some found) (λ file. pages_verdict file ≡ Some found) mid.held (λ file first. opening_is file found first) page.first);
-      }
-    | Some wrong ↦ λ some length_wrong. record {
-        same = length_wrong.1.same;
-        faults = length_wrong.1.faults;
-        kind = length_kind size found (some ∙ ap Some (sym length_wrong.0));
-        first = told_here _ mid.held new.held length_wrong.1.same.held (told_map (λ file. length file ≡ size) (λ file. pages_verdict file ≡ Some found) mid.held
-          (λ file same_length. first_is (length_fault (length file)) _ found (ap length_fault same_length ∙ (some ∙ ap Some (sym length_wrong.0))))
-          (length_told mid.held mid.size size known holds));
-      }
-  ] refl refused
+  | None ↦ λ none page. record {
+    same = page.source.same;
+    faults = page.source.faults;
+    kind = page.kind;
+    first = told_here _ mid.held new.held page.source.same.held (told_map (λ file. opening_fault file ≡ Some found) (λ file. pages_verdict file ≡ Some found) mid.held (λ file first. opening_is file found first) page.first);
+  }
+  | Some wrong ↦ λ some length_wrong. record {
+    same = length_wrong.1.same;
+    faults = length_wrong.1.faults;
+    kind = length_kind size found (some ∙ ap Some (sym length_wrong.0));
+    first = told_here _ mid.held new.held length_wrong.1.same.held (told_map (λ file. length file ≡ size) (λ file. pages_verdict file ≡ Some found) mid.held
+        (λ file same_length. first_is (length_fault (length file)) _ found (ap length_fault same_length ∙ (some ∙ ap Some (sym length_wrong.0))))
+        (length_told mid.held mid.size size known holds));
+  }
+] refl refused
 
 -- a fault that the scan of an open file finds
 pub scanned_verdict : (mid open_at new : SourceView) (size kept n : ℕ) (header : Header) (found : Fault) → HoldsSize mid → mid.size ≡ Some size → IsOpened mid size kept header open_at → IsScannedTo open_at (kept / 1024) (Refused found) n new → IsVerdict mid found new
@@ -104,7 +104,7 @@ scanned_verdict mid open_at new size kept n header found holds known opened scan
     let right = told_here (λ file. pages_fault file 0 n ≡ None) open_at.held mid.held (sym opened.source.same.held) scanned.right in
     let wrong = told_here (λ file. page_fault file n ≡ Some found) open_at.held mid.held (sym opened.source.same.held) scanned.cause.1 in
     let both = told_both (λ file. pages_fault file 0 n ≡ None) (λ file. page_fault file n ≡ Some found) (λ file. n < length file / 1024 → pages_fault file 0 (length file / 1024) ≡ Some found) mid.held
-          (λ file before at within. pages_fault-found file 0 n (length file / 1024) found before (rw zero-add at) within) right wrong in
+    (λ file before at within. pages_fault-found file 0 n (length file / 1024) found before (rw zero-add at) within) right wrong in
     let within = told_map (λ file. length file ≡ size) (λ file. n < length file / 1024) mid.held (λ file is. rw (is, ← opened.length) scanned.within) (length_told mid.held mid.size size known holds) in
     let pages = told_both (λ file. n < length file / 1024 → pages_fault file 0 (length file / 1024) ≡ Some found) (λ file. n < length file / 1024) (λ file. pages_fault file 0 (length file / 1024) ≡ Some found) mid.held (λ file f h. f h) both within in
     record {

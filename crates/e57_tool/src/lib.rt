@@ -10,3 +10,6 @@ mod words;
 pub use program::run;
 pub use status::Status;
 pub use words::{Ask, WordFault, read_words};
+
+#[cfg(test)]
+mod tests;

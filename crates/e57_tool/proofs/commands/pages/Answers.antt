@@ -41,7 +41,7 @@ returns-in-Ok-put g c =
     let header = c.in-Ok-open.pages.header in
     let sound = scanned_sound (view c.open.new.self) (view c.in-Ok-open.pages.source) (view c.scan.new.self.source) c.in-Ok.length c.in-Ok-open.pages.length c.in-Ok-scan.count header (g.met.S.Source.holds_size c.open.new.self) opens.size c.in-Ok-open.ensures scanned.pages scanned.count in
     let text : c.as_bytes.result.now ≡ pages_line c.in-Ok-scan.count header.xml_place header.xml_length =
-        c.as_bytes.ensures.value ∙ c.as_str.ensures.value ∙ c.pages_line-line.ensures ∙ ap (λ (h : Header). pages_line c.in-Ok-scan.count h.xml_place h.xml_length) c.header-header.ensures in
+    c.as_bytes.ensures.value ∙ c.as_str.ensures.value ∙ c.pages_line-line.ensures ∙ ap (λ (h : Header). pages_line c.in-Ok-scan.count h.xml_place h.xml_length) c.header-header.ensures in
     rw c.into_source-source.ensures (record {
       opens = opens_once opens sound.same sound.faults;
       file = is_open (view c.args.source) (view c.open.new.self) (view c.scan.new.self.source) c.args.name.now c.in-Ok.length opens sound.same;
@@ -57,7 +57,7 @@ returns-in-Err-put g c =
     let header = c.in-Ok-open.pages.header in
     let sound = scanned_sound (view c.open.new.self) (view c.in-Ok-open.pages.source) (view c.scan.new.self.source) c.in-Ok.length c.in-Ok-open.pages.length c.in-Ok-scan.count header (g.met.S.Source.holds_size c.open.new.self) opens.size c.in-Ok-open.ensures scanned.pages scanned.count in
     let text : c.as_bytes.result.now ≡ pages_line c.in-Ok-scan.count header.xml_place header.xml_length =
-        c.as_bytes.ensures.value ∙ c.as_str.ensures.value ∙ c.pages_line-line.ensures ∙ ap (λ (h : Header). pages_line c.in-Ok-scan.count h.xml_place h.xml_length) c.header-header.ensures in
+    c.as_bytes.ensures.value ∙ c.as_str.ensures.value ∙ c.pages_line-line.ensures ∙ ap (λ (h : Header). pages_line c.in-Ok-scan.count h.xml_place h.xml_length) c.header-header.ensures in
     rw c.into_source-source.ensures (record {
       opens = opens_once opens sound.same sound.faults;
       file = is_open (view c.args.source) (view c.open.new.self) (view c.scan.new.self.source) c.args.name.now c.in-Ok.length opens sound.same;
