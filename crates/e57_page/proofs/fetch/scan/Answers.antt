@@ -16,4 +16,4 @@ loop-n-preserved g c = scanned_more (g.S.Source.view c.args.source.now) (g.S.Sou
 
 pub returns-in-Err-clause-pages : goal.returns-in-Err-clause-pages
 returns-in-Err-clause-pages g c =
-    (c.loop-n.n, scanned_to (g.S.Source.view c.args.source.now) (g.S.Source.view c.loop-n.source) (g.S.Source.view c.fetch.new.source) c.loop-n.n (c.args.length / 1024) c.in-Err.fault c.loop-n-test.true c.loop-n.invariant c.in-Err.ensures)
+    (c.loop-n.n, scanned_to (g.S.Source.view c.args.source.now) (g.S.Source.view c.loop-n.source) (g.S.Source.view c.fetch.new.source) c.loop-n.n (c.args.length / 1024) c.in-Err.fault (omega arith) c.loop-n.invariant c.in-Err.ensures)
