@@ -4,6 +4,8 @@
 mod disk_source;
 mod disk_target;
 mod std_sink;
+#[cfg(test)]
+mod tests;
 
 use disk_source::DiskSource;
 use disk_target::DiskTarget;

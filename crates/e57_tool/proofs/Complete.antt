@@ -1,6 +1,6 @@
 -- A command that ends as it should is done where the source has the file, it has no fault and no call failed.
-use Rattle.std.proofs.Common.{◌≡◌, ℕ, List, Option, Some, None, Result, Ok, Err, refl, sym, ap, subst, ◌∙◌}
-use Rattle.std.specs.Prelude.{IfSome, MatchResult, option_and_then}
+use Rattle.std.proofs.Common.{◌≡◌, ℕ, List, Option, Some, None, refl, subst, ◌∙◌}
+use Rattle.std.specs.Prelude.{IfSome, option_and_then}
 use Rattle.std.specs.FinMap.{get}
 use Rattle.e57_base.specs.Source.{Stock, SourceView}
 use Rattle.e57_base.specs.Sink.{SinkView}
@@ -8,7 +8,7 @@ use Rattle.e57_base.specs.declared.fault.Fault.{Fault}
 use Rattle.e57_tool.specs.declared.status.Status.{Status}
 use Rattle.e57_tool.specs.declared.status.Status.TheVariants as status
 use Rattle.e57_tool.specs.Words.{Command, PagesOf}
-use Rattle.e57_tool.specs.Run.{EndsAs, IsDoneUnlessFailed, stocked}
+use Rattle.e57_tool.specs.Run.{EndsAs, IsDoneUnlessFailed}
 use Rattle.e57_tool.specs.Commands.{CommandEnds, file_of, verdict_of}
 
 -- what is held is the stock's file

@@ -1,6 +1,6 @@
 -- What a command that opens one file does to its source.
 use Rattle.std.proofs.Common.{◌≡◌, ℕ, ◌≤◌, List, Option, Some, None, Result, Ok, refl, ◌∙◌, arith}
-use Rattle.std.specs.Prelude.{IfSome, IsSome}
+use Rattle.std.specs.Prelude.{IfSome}
 use Rattle.std.specs.FinMap.{get}
 use Rattle.e57_base.specs.Source.{Stock, SourceView, SameFile, Opens}
 use Rattle.e57_base.specs.declared.fault.Failed.{Failed}

@@ -7,7 +7,7 @@ use Rattle.e57_base.specs.declared.fault.Fault.{Fault}
 use Rattle.e57_base.specs.declared.fault.ReadFault.TheVariants.{Refused}
 use Rattle.e57_page.specs.declared.header.Header.{Header}
 use Rattle.e57_page.specs.Header.{header_fault, header_of, fault}
-use Rattle.e57_base.specs.declared.kind.Kind.TheVariants.{Page, FileLength}
+use Rattle.e57_base.specs.declared.kind.Kind.TheVariants.{FileLength}
 use Rattle.e57_page.specs.File.{length_fault, page_fault, pages_fault, opening_fault}
 use Rattle.e57_page.specs.FileLaws.{pages_fault-found, pages_fault-zero, whole_length}
 use Rattle.e57_page.specs.Pages.{AsksFor, IsOpened, IsNotOpened, IsRefusedByPage, IsScanned, IsScannedTo, is_opening_kind}
@@ -134,3 +134,7 @@ scanned_sound mid open_at new size kept count header holds known opened scanned 
       sound = told_here _ mid.held new.held same.held (told_both (λ file. opening_fault file ≡ None) (λ file. pages_fault file 0 (length file / 1024) ≡ None) (λ file. pages_verdict file ≡ None) mid.held (λ file opens page. verdict_is file None opens page) opened.first pages);
       written = told_here _ mid.held new.held same.held (told_both (λ file. count ≡ length file / 1024) (λ file. header ≡ header_of file) (λ file. pages_line count header.xml_place header.xml_length ≡ pages_output file) mid.held (λ file is head. rw (is, head) refl) all opened.read);
     }
+
+-- the text that is put is the line for the header that was kept
+pub text_is : {bytes str line : List ℕ} (count : ℕ) {given header : Header} → bytes ≡ str → str ≡ line → line ≡ pages_line count given.xml_place given.xml_length → given ≡ header → bytes ≡ pages_line count header.xml_place header.xml_length
+text_is count {given = given} {header = header} a b c d = a ∙ b ∙ c ∙ ap (λ (h : Header). pages_line count h.xml_place h.xml_length) d

@@ -46,16 +46,26 @@ fn changed(mut bytes: Vec<u8>, at: usize) -> Vec<u8> {
     bytes
 }
 
-// The files that the runs read.
-fn files(alloc: Global) -> Result<MemSource, AllocError> {
-    let mut source = MemSource::new(alloc, 0)?;
-    source.add("two", file(alloc, 2, 136, 933, true)?)?;
-    source.add("turned", file(alloc, 2, 136, 933, false)?)?;
-    source.add("damaged", changed(file(alloc, 2, 136, 933, true)?, 1500))?;
-    source.add("old", changed(file(alloc, 2, 136, 933, true)?, 12))?;
-    source.add("odd", vec![in alloc; 0; 1500]?)?;
-    source.add("empty", Vec::new(alloc))?;
-    Ok(source)
+// What the file of a run holds.
+#[derive(Clone, Copy)]
+enum Content {
+    TwoPages,
+    TurnedWords,
+    Damaged,
+    OtherVersion,
+    OddLength,
+    Nothing,
+}
+
+fn bytes_of(alloc: Global, of: Content) -> Result<Vec<u8>, AllocError> {
+    match of {
+        Content::TwoPages => file(alloc, 2, 136, 933, true),
+        Content::TurnedWords => file(alloc, 2, 136, 933, false),
+        Content::Damaged => Ok(changed(file(alloc, 2, 136, 933, true)?, 1500)),
+        Content::OtherVersion => Ok(changed(file(alloc, 2, 136, 933, true)?, 12)),
+        Content::OddLength => vec![in alloc; 0; 1500],
+        Content::Nothing => Ok(Vec::new(alloc)),
+    }
 }
 
 fn owned(alloc: Global, words: &[&str]) -> Result<Vec<String>, AllocError> {
@@ -66,98 +76,166 @@ fn owned(alloc: Global, words: &[&str]) -> Result<Vec<String>, AllocError> {
     Ok(all)
 }
 
+// A run over a source that has one file, named `scan`: its status, and what it put on `out` and on `err`.
+fn run_over(
+    alloc: Global,
+    words: &[&str],
+    of: Content,
+    failing: Option<u64>,
+    mut out: MemSink,
+) -> Result<(Status, MemSink, MemSink), AllocError> {
+    let words = owned(alloc, words)?;
+    let mut source = MemSource::new(alloc, 0)?;
+    source.add("scan", bytes_of(alloc, of)?)?;
+    if let Some(call) = failing {
+        source.fail_at(call)?;
+    }
+    let target = MemTarget::new(alloc, 0, 0)?;
+    let mut err = MemSink::new(alloc, 100)?;
+    let (status, _, _) = run(alloc, &words, source, target, &mut out, &mut err);
+    Ok((status, out, err))
+}
+
+// The words, what the file holds, and the status, the output and the line on `err` of the run.
+type Case = (
+    &'static [&'static str],
+    Content,
+    Status,
+    &'static str,
+    &'static str,
+);
+
+const LINE: &str = "pages 2 xml 136 933\n";
+
+const CASES: [Case; 13] = [
+    (
+        &["pages", "scan"],
+        Content::TwoPages,
+        Status::Done,
+        LINE,
+        "",
+    ),
+    (
+        &["pages", "scan"],
+        Content::TurnedWords,
+        Status::Done,
+        LINE,
+        "",
+    ),
+    (
+        &["pages", "scan"],
+        Content::Damaged,
+        Status::Refused,
+        "",
+        "refused Page 1 0\n",
+    ),
+    (
+        &["pages", "scan"],
+        Content::OtherVersion,
+        Status::Refused,
+        "",
+        "refused Version 1 1\n",
+    ),
+    (
+        &["pages", "scan"],
+        Content::OddLength,
+        Status::Refused,
+        "",
+        "refused FileLength 1500 0\n",
+    ),
+    (
+        &["pages", "scan"],
+        Content::Nothing,
+        Status::Refused,
+        "",
+        "refused FileLength 0 0\n",
+    ),
+    (
+        &["pages", "absent"],
+        Content::TwoPages,
+        Status::SourceFault,
+        "",
+        "source fault\n",
+    ),
+    (&[], Content::TwoPages, Status::WordsFault, "", "words 0\n"),
+    (
+        &["extract"],
+        Content::TwoPages,
+        Status::WordsFault,
+        "",
+        "words 0\n",
+    ),
+    (
+        &["--help"],
+        Content::TwoPages,
+        Status::WordsFault,
+        "",
+        "words 0\n",
+    ),
+    (
+        &["pages"],
+        Content::TwoPages,
+        Status::WordsFault,
+        "",
+        "words 1\n",
+    ),
+    (
+        &["pages", "--all", "scan"],
+        Content::TwoPages,
+        Status::WordsFault,
+        "",
+        "words 1\n",
+    ),
+    (
+        &["pages", "scan", "b"],
+        Content::TwoPages,
+        Status::WordsFault,
+        "",
+        "words 2\n",
+    ),
+];
+
 #[test]
 fn each_run_ends_as_it_should(rt: HostRuntime) -> Result<(), Fail> {
     let alloc = rt.alloc();
-    let cases: [(&[&str], Status, &str, &str); 13] = [
-        (&["pages", "two"], Status::Done, "pages 2 xml 136 933\n", ""),
-        (
-            &["pages", "turned"],
-            Status::Done,
-            "pages 2 xml 136 933\n",
-            "",
-        ),
-        (
-            &["pages", "damaged"],
-            Status::Refused,
-            "",
-            "refused Page 1 0\n",
-        ),
-        (
-            &["pages", "old"],
-            Status::Refused,
-            "",
-            "refused Version 1 1\n",
-        ),
-        (
-            &["pages", "odd"],
-            Status::Refused,
-            "",
-            "refused FileLength 1500 0\n",
-        ),
-        (
-            &["pages", "empty"],
-            Status::Refused,
-            "",
-            "refused FileLength 0 0\n",
-        ),
-        (
-            &["pages", "absent"],
-            Status::SourceFault,
-            "",
-            "source fault\n",
-        ),
-        (&[], Status::WordsFault, "", "words 0\n"),
-        (&["extract"], Status::WordsFault, "", "words 0\n"),
-        (&["--help"], Status::WordsFault, "", "words 0\n"),
-        (&["pages"], Status::WordsFault, "", "words 1\n"),
-        (
-            &["pages", "--all", "two"],
-            Status::WordsFault,
-            "",
-            "words 1\n",
-        ),
-        (&["pages", "a", "b"], Status::WordsFault, "", "words 2\n"),
-    ];
-    for (words, status, on_out, on_err) in cases {
-        let words = owned(alloc, words)?;
-        let mut out = MemSink::new(alloc, 100)?;
-        let mut err = MemSink::new(alloc, 100)?;
-        let target = MemTarget::new(alloc, 0, 0)?;
-        let (given, _, _) = run(alloc, &words, files(alloc)?, target, &mut out, &mut err);
-        assert_eq!(rt; given, status, "{words:?}");
-        assert_eq!(rt; out.bytes(), on_out.as_bytes(), "{words:?}");
-        assert_eq!(rt; err.bytes(), on_err.as_bytes(), "{words:?}");
+    for (words, of, status, on_out, on_err) in &CASES {
+        let room = MemSink::new(alloc, 100)?;
+        let (given, out, err) = run_over(alloc, words, *of, None, room)?;
+        assert_eq!(rt; given, *status, "{on_err}");
+        assert_eq!(rt; out.bytes(), on_out.as_bytes(), "{on_err}");
+        assert_eq!(rt; err.bytes(), on_err.as_bytes(), "{on_err}");
+    }
+    Ok(())
+}
+
+// A run opens the file, reads page 0, and then scans the pages 0 and 1.
+#[test]
+fn a_failed_read_is_a_source_fault(rt: HostRuntime) -> Result<(), Fail> {
+    let alloc = rt.alloc();
+    for failing in 0..4 {
+        let room = MemSink::new(alloc, 100)?;
+        let (given, out, err) = run_over(
+            alloc,
+            &["pages", "scan"],
+            Content::TwoPages,
+            Some(failing),
+            room,
+        )?;
+        assert_eq!(rt; given, Status::SourceFault, "call {failing}");
+        assert_eq!(rt; out.bytes(), b"".as_slice(), "call {failing}");
+        assert_eq!(rt; err.bytes(), b"source fault\n".as_slice(), "call {failing}");
     }
     Ok(())
 }
 
 #[test]
-fn a_failed_call_has_its_status(rt: HostRuntime) -> Result<(), Fail> {
+fn a_failed_put_is_an_output_fault(rt: HostRuntime) -> Result<(), Fail> {
     let alloc = rt.alloc();
-    let words = owned(alloc, &["pages", "two"])?;
-    for failing in 0..5 {
-        let mut source = files(alloc)?;
-        source.fail_at(failing)?;
-        let mut out = MemSink::new(alloc, 100)?;
-        let mut err = MemSink::new(alloc, 100)?;
-        let target = MemTarget::new(alloc, 0, 0)?;
-        let (status, _, _) = run(alloc, &words, source, target, &mut out, &mut err);
-        // It opens the file, reads page 0, and then scans pages 0 and 1.
-        if failing < 4 {
-            assert_eq!(rt; status, Status::SourceFault, "call {failing}");
-            assert_eq!(rt; out.bytes(), b"".as_slice(), "call {failing}");
-            assert_eq!(rt; err.bytes(), b"source fault\n".as_slice(), "call {failing}");
-        } else {
-            assert_eq!(rt; status, Status::Done);
-        }
-    }
-    let mut out = MemSink::new(alloc, 100)?;
-    out.fail_at(0)?;
-    let mut err = MemSink::new(alloc, 100)?;
-    let target = MemTarget::new(alloc, 0, 0)?;
-    let (status, _, _) = run(alloc, &words, files(alloc)?, target, &mut out, &mut err);
-    assert_eq!(rt; status.code(), 4);
+    let mut full = MemSink::new(alloc, 100)?;
+    full.fail_at(0)?;
+    let (given, out, err) = run_over(alloc, &["pages", "scan"], Content::TwoPages, None, full)?;
+    assert_eq!(rt; given.code(), 4);
+    assert_eq!(rt; out.bytes(), b"".as_slice());
     assert_eq!(rt; err.bytes(), b"output fault\n".as_slice());
     Ok(())
 }
