@@ -1,0 +1,6 @@
+pub mod Tree
+pub mod Nested
+pub mod Lawful
+pub mod Spells
+pub mod Fault
+pub mod Spelling

@@ -1,2 +1,7 @@
 //! The element tree of a file: read from its text, written, and made by calls.
 #![tactic(auto)]
+
+mod tree;
+
+pub use e57_pieces::{Attr, Attrs};
+pub use tree::{RawNode, RawTree};
