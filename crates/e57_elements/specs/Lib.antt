@@ -4,3 +4,5 @@ pub mod Lawful
 pub mod Spells
 pub mod Fault
 pub mod Spelling
+pub mod Machine
+pub mod Builder

@@ -1,6 +1,6 @@
 -- How pieces nest to a tree.
-use Rattle.std.specs.Prelude.{◌≡◌, ℕ, Bool, true, false, ◌⊎◌, ◌&&◌, List, [], ◌∷◌, ◌++◌, if◌then◌else◌}
-use Rattle.std.specs.List.{AllByRecursion}
+use Rattle.std.specs.Prelude.{◌≡◌, ℕ, Bool, true, ◌⊎◌, List, [], ◌∷◌, ◌++◌, if◌then◌else◌}
+use Rattle.std.specs.List.{AllByRecursion, list_all}
 use Rattle.e57_pieces.specs.declared.piece.Attr.{Attr}
 use Rattle.e57_pieces.specs.declared.piece.Piece.{Piece}
 use Rattle.e57_pieces.specs.declared.piece.Piece.TheVariants.{Start, Empty, End, Comment, CData, Text}
@@ -9,8 +9,7 @@ use Rattle.e57_elements.specs.Tree.{Element, element, Elements, none, more}
 
 -- each byte is white space
 abbrev pub only_space : List ℕ → Bool
-only_space [] = true
-only_space (b ∷ bs) = is_space b && only_space bs
+only_space bytes = list_all is_space bytes
 
 -- ---- text
 

@@ -1,6 +1,8 @@
 //! The element tree of a file: read from its text, written, and made by calls.
 #![tactic(auto)]
 
+mod builder;
+mod text;
 mod tree;
 
 pub use e57_pieces::{Attr, Attrs};
