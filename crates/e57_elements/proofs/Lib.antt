@@ -1,2 +1,5 @@
 mod Runs
 mod Represents
+mod Nodes
+mod Limits
+mod Builds

@@ -1,5 +1,5 @@
 -- What the builder of a tree keeps of the machine's state.
-use Rattle.std.specs.Prelude.{◌≡◌, ℕ, ◌+◌, ◌^◌, ◌≤◌, Bool, true, false, List, [], ◌∷◌, ◌++◌, length, Option, Some, None, Result, Ok, Err, if◌then◌else◌}
+use Rattle.std.specs.Prelude.{◌≡◌, ℕ, ◌+◌, ◌^◌, ◌≤◌, nat_lt, ◌&&◌, Bool, true, false, List, [], ◌∷◌, ◌++◌, length, Option, Some, None, Result, Ok, Err, if◌then◌else◌}
 use Rattle.e57_pieces.specs.declared.piece.Piece.{Piece}
 use Rattle.e57_elements.specs.declared.tree.RawNode.{RawNode}
 use Rattle.e57_elements.specs.declared.builder.Mark.{Mark}
@@ -55,11 +55,6 @@ Admits (done e) attrs (Err Nest) = Unit {0}
 Admits (done e) attrs (Err (Limit b)) = ⊥
 Admits state attrs (Err Memory) = ⊥
 
--- the text of an ended element that has these nodes below it
-abbrev pub kept_beside : List RawNode → List ℕ → List ℕ
-kept_beside [] text = text
-kept_beside (node ∷ nodes) text = if only_space text then [] else text
-
 -- the node of an ended element
 abbrev pub ended_node : RawNode → List RawNode → List ℕ → RawNode
-ended_node node below text = record { name = node.name; attrs = node.attrs; text = kept_beside below text; size = length below + 1 }
+ended_node node below text = record { name = node.name; attrs = node.attrs; text = if nat_lt 1 (length below + 1) && only_space text then [] else text; size = length below + 1 }

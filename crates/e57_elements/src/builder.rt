@@ -30,13 +30,10 @@ impl Mark {
         }
     {
         let size = nodes.len() - self.place;
-        let mut text = self.text;
-        if size > 1 && text.is_only_space() {
-            text.clear();
-        }
+        let text = self.text.beside(size > 1);
         let node = &mut nodes[self.place];
         node.size = size as u32;
-        node.text = text.into_octets();
+        node.text = text;
     }
 }
 
@@ -134,7 +131,9 @@ impl Builder {
     fn start(&mut self, alloc: Global, name: Octets, attrs: Attrs) -> Result<(), Stop>
         ensures { (state : State) → Keeps self.old state → Takes state (Start name attrs) result self.new }
     {
-        self.admit(attrs.len())?;
+        if let Err(stop) = self.admit(attrs.len()) {
+            return Err(stop);
+        }
         let place = self.nodes.len();
         self.nodes.push(RawNode {
             name,
@@ -153,7 +152,9 @@ impl Builder {
     fn empty(&mut self, alloc: Global, name: Octets, attrs: Attrs) -> Result<(), Stop>
         ensures { (state : State) → Keeps self.old state → Takes state (Empty name attrs) result self.new }
     {
-        self.admit(attrs.len())?;
+        if let Err(stop) = self.admit(attrs.len()) {
+            return Err(stop);
+        }
         self.nodes.push(RawNode {
             name,
             attrs,

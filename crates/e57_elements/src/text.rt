@@ -1,6 +1,6 @@
 //! The text of an element while it is read.
 
-ghost use Rattle.std.specs.Prelude.{◌≡◌, ◌++◌, [], List, ℕ, OnOk};
+ghost use Rattle.std.specs.Prelude.{◌≡◌, ◌++◌, [], ◌&&◌, if◌then◌else◌, List, ℕ, OnOk};
 ghost use Rattle.e57_elements.specs.Nested.{only_space};
 
 use e57_base::Octets;
@@ -37,25 +37,16 @@ impl TextOut {
         Ok(())
     }
 
-    /// Whether each byte is white space.
-    pub fn is_only_space(&self) -> bool
-        ensures { result ≡ only_space self.now }
+    /// The text of an element, where white space alone counts for nothing beside children. Takes no memory.
+    pub fn beside(self, children: bool) -> Octets
+        ensures { result ≡ (if children && only_space self then [] else self) }
     {
-        is_only_space(&self.bytes)
-    }
-
-    /// Takes all bytes away.
-    pub fn clear(&mut self)
-        ensures { self.new ≡ [] }
-    {
-        self.bytes.clear();
-    }
-
-    /// The text, which grows no more. Takes no memory.
-    pub fn into_octets(self) -> Octets
-        ensures { result ≡ self }
-    {
-        Octets::new(self.bytes)
+        let TextOut { mut bytes } = self;
+        if children && is_only_space(&bytes) {
+            bytes.clear();
+            return Octets::new(bytes);
+        }
+        Octets::new(bytes)
     }
 }
 
