@@ -3,3 +3,4 @@ mod Represents
 mod Nodes
 mod Limits
 mod Builds
+mod Writing

@@ -6,3 +6,4 @@ pub mod Fault
 pub mod Spelling
 pub mod Machine
 pub mod Builder
+pub mod Places

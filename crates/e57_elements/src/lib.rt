@@ -4,6 +4,8 @@
 mod builder;
 mod text;
 mod tree;
+mod write;
 
 pub use e57_pieces::{Attr, Attrs};
 pub use tree::{RawNode, RawTree};
+pub use write::write_elements;
