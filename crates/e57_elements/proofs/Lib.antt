@@ -4,3 +4,4 @@ mod Nodes
 mod Limits
 mod Builds
 mod Writing
+mod Elements

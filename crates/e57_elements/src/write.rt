@@ -1,6 +1,6 @@
 //! The written spelling of a tree.
 
-ghost use Rattle.std.specs.Prelude.{◌≡◌, ◌+◌, ◌∷◌, ◌++◌, [], List, codes, drop, IfOk, OnOk};
+ghost use Rattle.std.specs.Prelude.{◌≡◌, ◌^◌, ◌≤◌, ◌∷◌, ◌++◌, [], List, codes, drop, length, IfOk, OnOk};
 ghost use Rattle.e57_elements.specs.declared.tree.RawNode.{RawNode};
 ghost use Rattle.e57_elements.specs.Tree.{Element, preorder};
 ghost use Rattle.e57_elements.specs.Lawful.{IsLawful};
@@ -29,7 +29,8 @@ pub fn write_elements(alloc: Global, tree: &RawTree) -> Result<Vec<u8>, AllocErr
 
 /// Writes the element at a place. It calls itself for the children, so at most to the depth of the tree, which is 64.
 fn write_element(out: &mut Vec<u8>, tree: &RawTree, place: usize) -> Result<(), AllocError>
-    requires { StandsAt tree.now place }
+    requires stands { StandsAt tree.now place }
+    requires few { length tree.now ≤ 2 ^ 20 }
     ensures { (e : Element) (rest : List RawNode) → drop place tree.now ≡ preorder e ++ rest → OnOk result (out.new.items ≡ out.old.items ++ element_spelling e) }
 {
     let node = tree.node(place);
