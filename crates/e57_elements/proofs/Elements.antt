@@ -8,7 +8,7 @@ use Rattle.std.specs.Result.{OnOk}
 use Rattle.e57_pieces.specs.declared.piece.Attr.{Attr}
 use Rattle.e57_elements.specs.declared.tree.RawNode.{RawNode}
 use Rattle.e57_elements.specs.Tree.{Element, element, Elements, none, more, preorder, preorder_all}
-use Rattle.e57_elements.specs.Spelling.{text_byte, written, attrs_spelling, is_bare, element_spelling, elements_spelling}
+use Rattle.e57_elements.specs.Spelling.{text_byte, written, attrs_spelling, is_bare, element_spelling, elements_spelling, spelling}
 use Rattle.e57_elements.specs.Places.{StandsAt}
 
 abbrev pub children_of : Element → Elements
@@ -204,3 +204,13 @@ full_written e node before tag open_tag text now new is h begun opened texted fi
 pub on_ok : {T E : Type 0} (P Q : Type 0) (r : Result T E) → (P → Q) → OnOk r P → OnOk r Q
 on_ok P Q (Ok x) f h = f h
 on_ok P Q (Err e) f h = h
+
+-- ---- the whole tree
+
+-- the declaration and the line feed
+abbrev pub heading : List ℕ
+heading = codes "<?xml version=" ++ (34 ∷ codes "1.0" ++ (34 ∷ codes " encoding=" ++ (34 ∷ codes "UTF-8" ++ (34 ∷ codes "?>" ++ (10 ∷ [])))))
+
+pub tree_written : (nodes : List RawNode) (e : Element) (before new : List ℕ) → nodes ≡ preorder e → before ≡ heading
+    → ((f : Element) (rest : List RawNode) → drop 0 nodes ≡ preorder f ++ rest → new ≡ before ++ element_spelling f) → new ≡ spelling e
+tree_written nodes e before new is begun is_written = is_written e [] (is ∙ sym (append-nil (preorder e))) ∙ ap (λ t. t ++ element_spelling e) begun

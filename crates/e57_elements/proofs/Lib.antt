@@ -5,3 +5,4 @@ mod Limits
 mod Builds
 mod Writing
 mod Elements
+mod Spelled
