@@ -5,3 +5,4 @@ pub mod Cut
 pub mod Start
 pub mod Reading
 pub mod Gives
+pub mod Laws

@@ -1,0 +1,3 @@
+-- What holds of the grammar, the cut and the reading functions.
+pub mod Characters
+pub mod Fronts
