@@ -1,3 +1,5 @@
 -- What holds of the grammar, the cut and the reading functions.
 pub mod Characters
 pub mod Fronts
+pub mod References
+pub mod Attributes
