@@ -3,3 +3,4 @@ pub mod Characters
 pub mod Fronts
 pub mod References
 pub mod Attributes
+pub mod Markup
