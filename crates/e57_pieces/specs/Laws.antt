@@ -4,3 +4,6 @@ pub mod Fronts
 pub mod References
 pub mod Attributes
 pub mod Markup
+pub mod Next
+pub mod Cut
+pub mod Start

@@ -143,20 +143,37 @@ cdata_took text x e =
     } in
     subst (λ (y : Piece × List ℕ). TookPiece text y) (one_some (CData b.0.0, b.0.1) x b.2) made
 
-run_took : (text : List ℕ) (x : Piece × List ℕ) → run_at text ≡ Some x → TookPiece text x
+-- a run that is read
+pub record TookRun (text : List ℕ) (x : Piece × List ℕ) : Type 0 where
+  pub spelling : List ℕ
+  pub meaning : List ℕ
+  pub is_run : IsRun spelling meaning
+  pub is_text : x.0 ≡ Text meaning
+  pub ends : NoPart (is_plain 60) x.1
+  pub parts : text ≡ spelling ++ x.1
+
+pub run_found : (text : List ℕ) (x : Piece × List ℕ) → run_at text ≡ Some x → TookRun text x
 unfolding run_at
-run_took text x e =
+run_found text x e =
     let g = given_some (leb (suc (length (text_at 60 text).1)) (length text)) (Text (text_at 60 text).0, (text_at 60 text).1) x e in
     let t = text_took 60 text in
     let shorter : suc (length (text_at 60 text).1) ≤ length text = leb-true (suc (length (text_at 60 text).1)) (length text) g.0 in
     let some : 0 < length t.spelling = omega (arith, shorter, ap (λ (u : List ℕ). length u) t.parts, length-append t.spelling (text_at 60 text).1) in
-    let made : TookPiece text (Text (text_at 60 text).0, (text_at 60 text).1) = record {
+    let made : TookRun text (Text (text_at 60 text).0, (text_at 60 text).1) = record {
       spelling = t.spelling;
-      spelled = record { some = some; means = t.holds };
+      meaning = (text_at 60 text).0;
+      is_run = record { some = some; means = t.holds };
+      is_text = refl;
       ends = text_ends 60 text;
       parts = t.parts;
     } in
-    subst (λ (y : Piece × List ℕ). TookPiece text y) g.1 made
+    subst (λ (y : Piece × List ℕ). TookRun text y) g.1 made
+
+run_took : (text : List ℕ) (x : Piece × List ℕ) → run_at text ≡ Some x → TookPiece text x
+run_took text x e =
+    let r = run_found text x e in
+    let made : TookPiece text (Text r.meaning, x.1) = record { spelling = r.spelling; spelled = r.is_run; ends = r.ends; parts = r.parts } in
+    subst (λ (y : Piece). TookPiece text (y, x.1)) (sym r.is_text) made
 
 pub piece_took : (text : List ℕ) (x : Piece × List ℕ) → piece_at text ≡ Some x → TookPiece text x
 unfolding piece_at
