@@ -1,0 +1,212 @@
+-- What the builder does is what the machine does.
+use Rattle.std.proofs.Common.{◌≡◌, ℕ, suc, ◌+◌, ◌-◌, ◌*◌, ◌^◌, ◌<◌, ◌≤◌, Bool, true, false, cond, ◌&&◌, ltb, eqb, List, [], ◌∷◌, ◌++◌, length, get_or, set, Option, Some, None, Result, Ok, Err, refl, sym, ap, subst, ◌∙◌, append_assoc, length-append, arith}
+use Rattle.std.proofs.Math.Seq.{set-append_seam, get_or-append_seam}
+use Rattle.std.specs.Str.{bytes_eq}
+use Rattle.e57_pieces.specs.declared.piece.Attr.{Attr}
+use Rattle.e57_pieces.specs.declared.piece.Piece.{Piece}
+use Rattle.e57_pieces.specs.declared.piece.Piece.TheVariants.{Start, Empty, End, Comment, CData, Text}
+use Rattle.e57_elements.specs.declared.tree.RawNode.{RawNode}
+use Rattle.e57_elements.specs.declared.builder.Mark.{Mark}
+use Rattle.e57_elements.specs.declared.builder.Builder.{Builder}
+use Rattle.e57_elements.specs.declared.builder.Stop.{Stop}
+use Rattle.e57_elements.specs.declared.builder.Stop.TheVariants.{Nest, Limit, Memory}
+use Rattle.e57_elements.specs.Tree.{Element, element, Elements, none, more, preorder, preorder_all}
+use Rattle.e57_elements.specs.Nested.{only_space, kept}
+use Rattle.e57_elements.specs.Fault.{limit}
+use Rattle.e57_elements.specs.Machine.{Open, State, reading, done, join, begin, with_text, with_child, ended, put, end_tag, inner_text, outer_text, text_run, step, open_node, nodes_of, state_nodes, state_depth, passes_in}
+use Rattle.e57_elements.specs.Builder.{Keeps, IsBuilder, Takes, Admits, mark_of, marks_of, state_marks, is_done, ended_node}
+use Rattle.e57_elements.proofs.Limits.{limit_1, limit_2, limit_3, limit_none, Within, limit_within}
+use Rattle.e57_elements.proofs.Nodes.{put_nodes, put_marks, put_done, length-marks_of, ended_is, snoc_same, snoc_some}
+
+-- ---- the node of an element that ends
+
+pub end_node : (nodes before below : List RawNode) (node read : RawNode) (place len : ℕ) (text kept_text : List ℕ)
+    → nodes ≡ before ++ node ∷ below → length before ≡ place → len ≡ length nodes → read ≡ get_or nodes place read
+    → kept_text ≡ (cond (ltb 1 (len - place) && only_space text) [] text)
+    → set nodes place (record { name = read.name; attrs = read.attrs; text = kept_text; size = len - place }) ≡ before ++ ended_node node below text ∷ below
+end_node nodes before below node read place len text kept_text parts at_place is_len is_read is_kept =
+    let new : RawNode = record { name = read.name; attrs = read.attrs; text = kept_text; size = len - place } in
+    let e1 : set nodes place new ≡ set (before ++ node ∷ below) (length before) new = cc in
+    let e2 = set-append_seam before node below new in
+    let r : read ≡ node = is_read ∙ ap (λ ns. get_or ns place read) parts ∙ ap (λ i. get_or (before ++ node ∷ below) i read) (sym at_place) ∙ get_or-append_seam before node below read in
+    let n : len - place ≡ length below + 1 = (let a = length-append before (node ∷ below) in let b = ap length parts in omega arith) in
+    let t : kept_text ≡ (cond (ltb 1 (length below + 1) && only_space text) [] text) = is_kept ∙ ap (λ k. cond (ltb 1 k && only_space text) [] text) n in
+    let v : new ≡ ended_node node below text = cc in
+    e1 ∙ e2 ∙ ap (λ x. before ++ x ∷ below) v
+
+-- ---- whether an element may begin
+
+pub admits_done : (s : State) (b : Builder) (n : ℕ) → Keeps b s → b.done ≡ true → Admits {T = Unit {0}} s n (Err Nest)
+admits_done (reading opens) b n h e = let f = h.done in cc
+admits_done (done d) b n h e = tt
+
+pub admits_limit : (s : State) (b : Builder) (n which : ℕ) → Keeps b s → b.done ≡ false
+    → ((d p : ℕ) → d ≡ length b.marks.items + 1 → p ≡ length b.nodes.items + 1 → limit n d p ≡ Some which) → Admits {T = Unit {0}} s n (Err (Limit which))
+admits_limit (reading opens) b n which h e l = l (length opens + 1) (length (nodes_of opens) + 1) (let f = ap length h.marks in let g = length-marks_of opens in omega arith) (let f = ap length h.nodes in omega arith)
+admits_limit (done d) b n which h e l = let f = h.done in cc
+
+pub admits_ok : (s : State) (b : Builder) (n : ℕ) → Keeps b s → b.done ≡ false → n ≤ 64 → length b.marks.items < 64 → length b.nodes.items < 2 ^ 20 → Admits {T = Unit {0}} s n (Ok tt)
+admits_ok (reading opens) b n h e f g k =
+    limit_none n (length opens + 1) (length (nodes_of opens) + 1) f
+      (let m = ap length h.marks in let l = length-marks_of opens in omega arith) (let m = ap length h.nodes in omega arith)
+admits_ok (done d) b n h e f g k = let l = h.done in cc
+
+-- ---- tags
+
+-- a tag that isn't admitted
+pub start_refused : (s : State) (name : List ℕ) (attrs : List Attr) (stop : Stop) (new : Builder) → Admits {T = Unit {0}} s (length attrs) (Err stop) → Takes {T = Unit {0}} s (Start name attrs) (Err stop) new
+start_refused (reading opens) name attrs Nest new h = absurd h
+start_refused (reading opens) name attrs (Limit b) new h = (reading (begin name attrs ∷ opens), refl, h)
+start_refused (reading opens) name attrs Memory new h = absurd h
+start_refused (done e) name attrs Nest new h = refl
+start_refused (done e) name attrs (Limit b) new h = absurd h
+start_refused (done e) name attrs Memory new h = absurd h
+
+pub empty_refused : (s : State) (name : List ℕ) (attrs : List Attr) (stop : Stop) (new : Builder) → Admits {T = Unit {0}} s (length attrs) (Err stop) → Takes {T = Unit {0}} s (Empty name attrs) (Err stop) new
+empty_refused (reading opens) name attrs Nest new h = absurd h
+empty_refused (reading opens) name attrs (Limit b) new h = (put (element name attrs [] none) opens, refl, h)
+empty_refused (reading opens) name attrs Memory new h = absurd h
+empty_refused (done e) name attrs Nest new h = refl
+empty_refused (done e) name attrs (Limit b) new h = absurd h
+empty_refused (done e) name attrs Memory new h = absurd h
+
+pub start_takes : (s : State) (b new : Builder) (name : List ℕ) (attrs : List Attr) → Keeps b s → Admits {T = Unit {0}} s (length attrs) (Ok tt)
+    → new.nodes.items ≡ b.nodes.items ++ (record { name = name; attrs = attrs; text = []; size = 0 }) ∷ []
+    → new.marks.items ≡ b.marks.items ++ (record { place = length b.nodes.items; text = [] }) ∷ []
+    → new.done ≡ b.done → Takes {T = Unit {0}} s (Start name attrs) (Ok tt) new
+start_takes (reading opens) b new name attrs h a nodes marks is_open =
+    let w = limit_within (length attrs) (length opens + 1) (length (nodes_of opens) + 1) a in
+    (reading (begin name attrs ∷ opens), refl, a, record {
+      nodes = nodes ∙ ap (λ ns. ns ++ (open_node (begin name attrs)) ∷ []) h.nodes;
+      marks = marks ∙ ap (λ ms. ms ++ (record { place = length b.nodes.items; text = [] }) ∷ []) h.marks ∙ ap (λ ns. marks_of opens ++ (record { place = length ns; text = [] }) ∷ []) h.nodes;
+      done = is_open ∙ h.done;
+      few = (let l = length-append (nodes_of opens) (open_node (begin name attrs) ∷ []) in let p = w.place in omega arith);
+    })
+start_takes (done e) b new name attrs h a nodes marks is_open = absurd a
+
+-- an element is put
+put_keeps : (e : Element) (opens : List Open) (new : Builder) → new.nodes.items ≡ nodes_of opens ++ preorder e → new.marks.items ≡ marks_of opens
+    → new.done ≡ eqb (length new.marks.items) 0 → length (nodes_of opens ++ preorder e) ≤ 2 ^ 20 → Keeps new (put e opens)
+put_keeps e opens new nodes marks is_done_now few =
+    record {
+      nodes = nodes ∙ sym (put_nodes e opens);
+      marks = marks ∙ sym (put_marks e opens);
+      done = is_done_now ∙ put_done e opens (length new.marks.items) (ap length marks);
+      few = subst (λ ns. length ns ≤ 2 ^ 20) (sym (put_nodes e opens)) few;
+    }
+
+pub empty_takes : (s : State) (b new : Builder) (name : List ℕ) (attrs : List Attr) → Keeps b s → Admits {T = Unit {0}} s (length attrs) (Ok tt)
+    → new.nodes.items ≡ b.nodes.items ++ (record { name = name; attrs = attrs; text = []; size = 1 }) ∷ []
+    → new.marks.items ≡ b.marks.items → new.done ≡ eqb (length new.marks.items) 0 → Takes {T = Unit {0}} s (Empty name attrs) (Ok tt) new
+empty_takes (reading opens) b new name attrs h a nodes marks is_done_now =
+    let w = limit_within (length attrs) (length opens + 1) (length (nodes_of opens) + 1) a in
+    (put (element name attrs [] none) opens, refl, a,
+    put_keeps (element name attrs [] none) opens new (nodes ∙ ap (λ ns. ns ++ preorder (element name attrs [] none)) h.nodes) (marks ∙ h.marks) is_done_now
+      (let l = length-append (nodes_of opens) (preorder (element name attrs [] none)) in let p = w.place in omega arith))
+empty_takes (done e) b new name attrs h a nodes marks is_done_now = absurd a
+
+-- the last mark is that of the innermost open element
+pub end_within : (s : State) (b : Builder) (rest : List Mark) (mark : Mark) → Keeps b s → b.marks.items ≡ rest ++ mark ∷ [] → mark.place < length b.nodes.items
+end_within (reading []) b rest mark h e = absurd (snoc_some rest mark (sym h.marks ∙ e))
+end_within (reading (top ∷ outer)) b rest mark h e =
+    let r = snoc_same (marks_of outer) rest (mark_of top outer) mark (sym h.marks ∙ e) in
+    let p : length (nodes_of outer) ≡ mark.place = ap (λ (m : Mark). m.place) r.1 in
+    let l = length-append (nodes_of outer) (open_node top ∷ preorder_all top.children) in
+    let n = ap length h.nodes in
+    omega arith
+end_within (done d) b rest mark h e = absurd (snoc_some rest mark (sym h.marks ∙ e))
+
+pub end_absent : (s : State) (b new : Builder) (name : List ℕ) → Keeps b s → b.marks.items ≡ [] → Takes {T = Unit {0}} s (End name) (Err Nest) new
+end_absent (reading []) b new name h e = refl
+end_absent (reading (top ∷ outer)) b new name h e = absurd (snoc_some (marks_of outer) (mark_of top outer) (sym e ∙ h.marks))
+end_absent (done d) b new name h e = refl
+
+-- the node at the last mark
+end_read : (top : Open) (outer : List Open) (b : Builder) (mark : Mark) (read : RawNode) → Keeps b (reading (top ∷ outer)) → length (nodes_of outer) ≡ mark.place
+    → read ≡ get_or b.nodes.items mark.place read → read ≡ open_node top
+end_read top outer b mark read h p e =
+    e ∙ ap (λ ns. get_or ns mark.place read) h.nodes ∙ ap (λ i. get_or (nodes_of outer ++ (open_node top ∷ preorder_all top.children)) i read) (sym p)
+    ∙ get_or-append_seam (nodes_of outer) (open_node top) (preorder_all top.children) read
+
+pub end_other : (s : State) (b new : Builder) (rest : List Mark) (mark : Mark) (read : RawNode) (name : List ℕ) → Keeps b s → b.marks.items ≡ rest ++ mark ∷ []
+    → read ≡ get_or b.nodes.items mark.place read → bytes_eq read.name name ≡ false → Takes {T = Unit {0}} s (End name) (Err Nest) new
+end_other (reading []) b new rest mark read name h e at_place other = refl
+end_other (reading (top ∷ outer)) b new rest mark read name h e at_place other =
+    let r = snoc_same (marks_of outer) rest (mark_of top outer) mark (sym h.marks ∙ e) in
+    let n = end_read top outer b mark read h (ap (λ (m : Mark). m.place) r.1) at_place in
+    ap (λ t. cond t (Some (put (ended top) outer)) None) (ap (λ (x : RawNode). bytes_eq x.name name) (sym n) ∙ other)
+end_other (done d) b new rest mark read name h e at_place other = refl
+
+pub end_takes : (s : State) (b new : Builder) (rest : List Mark) (mark : Mark) (read : RawNode) (name : List ℕ) → Keeps b s → b.marks.items ≡ rest ++ mark ∷ []
+    → read ≡ get_or b.nodes.items mark.place read → bytes_eq read.name name ≡ true
+    → ((before : List RawNode) (node : RawNode) (below : List RawNode) → b.nodes.items ≡ before ++ node ∷ below → length before ≡ mark.place → new.nodes.items ≡ before ++ ended_node node below mark.text ∷ below)
+    → new.marks.items ≡ rest → new.done ≡ eqb (length new.marks.items) 0 → Takes {T = Unit {0}} s (End name) (Ok tt) new
+end_takes (reading []) b new rest mark read name h e at_place same ends marks is_done_now = absurd (snoc_some rest mark (sym h.marks ∙ e))
+end_takes (reading (top ∷ outer)) b new rest mark read name h e at_place same ends marks is_done_now =
+    let r = snoc_same (marks_of outer) rest (mark_of top outer) mark (sym h.marks ∙ e) in
+    let n = end_read top outer b mark read h (ap (λ (m : Mark). m.place) r.1) at_place in
+    let t : top.text ≡ mark.text = ap (λ (m : Mark). m.text) r.1 in
+    let news = ends (nodes_of outer) (open_node top) (preorder_all top.children) h.nodes (ap (λ (m : Mark). m.place) r.1) in
+    let nodes = news ∙ ap (λ u. nodes_of outer ++ ended_node (open_node top) (preorder_all top.children) u ∷ preorder_all top.children) (sym t) ∙ ap (λ ns. nodes_of outer ++ ns) (ended_is top) in
+    (put (ended top) outer,
+    ap (λ q. cond q (Some (put (ended top) outer)) None) (ap (λ (x : RawNode). bytes_eq x.name name) (sym n) ∙ same),
+    refl,
+    put_keeps (ended top) outer new nodes (marks ∙ sym r.0) is_done_now
+      (let l = length-append (nodes_of outer) (open_node top ∷ preorder_all top.children) in let m = length-append (nodes_of outer) (preorder (ended top)) in let f = h.few in omega arith))
+end_takes (done d) b new rest mark read name h e at_place same ends marks is_done_now = absurd (snoc_some rest mark (sym h.marks ∙ e))
+
+-- ---- text
+
+pub text_absent : (s : State) (b new : Builder) (text : List ℕ) → Keeps b s → b.marks.items ≡ [] → Takes {T = Unit {0}} s (CData text) (Err Nest) new
+text_absent (reading []) b new text h e = refl
+text_absent (reading (top ∷ outer)) b new text h e = absurd (snoc_some (marks_of outer) (mark_of top outer) (sym e ∙ h.marks))
+text_absent (done d) b new text h e = refl
+
+-- the last mark with more text
+last_mark : (marks : List Mark) (last read : Mark) (text : List ℕ) → read ≡ get_or (marks ++ last ∷ []) (length (marks ++ last ∷ []) - 1) read
+    → set (marks ++ last ∷ []) (length (marks ++ last ∷ []) - 1) (record { place = read.place; text = read.text ++ text }) ≡ marks ++ (record { place = last.place; text = last.text ++ text }) ∷ []
+last_mark marks last read text e =
+    let n : length (marks ++ last ∷ []) - 1 ≡ length marks = (let l = length-append marks (last ∷ []) in omega arith) in
+    let r : read ≡ last = e ∙ ap (λ i. get_or (marks ++ last ∷ []) i read) n ∙ get_or-append_seam marks last [] read in
+    ap (λ i. set (marks ++ last ∷ []) i (record { place = read.place; text = read.text ++ text })) n
+    ∙ set-append_seam marks last [] (record { place = read.place; text = read.text ++ text })
+    ∙ ap (λ (m : Mark). marks ++ (record { place = m.place; text = m.text ++ text }) ∷ []) r
+
+pub text_takes : (s : State) (b new : Builder) (len : ℕ) (read : Mark) (text grown : List ℕ) → Keeps b s → len ≡ length b.marks.items → 0 < len → read ≡ get_or b.marks.items (len - 1) read
+    → grown ≡ read.text ++ text → new.nodes.items ≡ b.nodes.items → new.marks.items ≡ set b.marks.items (len - 1) (record { place = read.place; text = grown }) → new.done ≡ b.done
+    → Takes {T = Unit {0}} s (CData text) (Ok tt) new
+text_takes (reading []) b new len read text grown h l some at_last is_grown nodes marks is_open = absurd (let m = ap length h.marks in omega arith)
+text_takes (reading (top ∷ outer)) b new len read text grown h l some at_last is_grown nodes marks is_open =
+    let ms : List Mark = marks_of outer ++ mark_of top outer ∷ [] in
+    let n : len ≡ length ms = l ∙ ap length h.marks in
+    let at : read ≡ get_or ms (length ms - 1) read = at_last ∙ ap (λ xs. get_or xs (len - 1) read) h.marks ∙ ap (λ k. get_or ms (k - 1) read) n in
+    let new_marks = marks ∙ ap (λ xs. set xs (len - 1) (record { place = read.place; text = grown })) h.marks
+        ∙ ap (λ k. set ms (k - 1) (record { place = read.place; text = grown })) n ∙ ap (λ t. set ms (length ms - 1) (record { place = read.place; text = t })) is_grown
+        ∙ last_mark (marks_of outer) (mark_of top outer) read text at in
+    (reading (with_text text top ∷ outer), refl, refl, record { nodes = nodes ∙ h.nodes; marks = new_marks; done = is_open ∙ h.done; few = h.few })
+text_takes (done d) b new len read text grown h l some at_last is_grown nodes marks is_open = absurd (let m = ap length h.marks in omega arith)
+
+-- a text run in an element is taken as CDATA is
+pub run_inner : (s : State) (b new : Builder) (text : List ℕ) (result : Result (Unit {0}) Stop) → Keeps b s → 0 < length b.marks.items → Takes s (CData text) result new → Takes s (Text text) result new
+run_inner (reading []) b new text result h some t = absurd (let m = ap length h.marks in omega arith)
+run_inner (reading (top ∷ outer)) b new text (Ok x) h some t = t
+run_inner (reading (top ∷ outer)) b new text (Err Nest) h some t = t
+run_inner (reading (top ∷ outer)) b new text (Err (Limit w)) h some t = t
+run_inner (reading (top ∷ outer)) b new text (Err Memory) h some t = t
+run_inner (done d) b new text result h some t = absurd (let m = ap length h.marks in omega arith)
+
+pub run_outer : (s : State) (b : Builder) (text : List ℕ) → Keeps b s → length b.marks.items ≡ 0 → only_space text ≡ true → Takes {T = Unit {0}} s (Text text) (Ok tt) b
+run_outer (reading []) b text h e p = (reading [], ap (λ t. cond t (Some (reading [])) None) p, refl, h)
+run_outer (reading (top ∷ outer)) b text h e p = absurd (let m = ap length h.marks in let l = length-marks_of (top ∷ outer) in omega arith)
+run_outer (done d) b text h e p = (done d, ap (λ t. cond t (Some (done d)) None) p, refl, h)
+
+pub run_refused : (s : State) (b new : Builder) (text : List ℕ) → Keeps b s → length b.marks.items ≡ 0 → only_space text ≡ false → Takes {T = Unit {0}} s (Text text) (Err Nest) new
+run_refused (reading []) b new text h e p = ap (λ t. cond t (Some (reading [])) None) p
+run_refused (reading (top ∷ outer)) b new text h e p = absurd (let m = ap length h.marks in let l = length-marks_of (top ∷ outer) in omega arith)
+run_refused (done d) b new text h e p = ap (λ t. cond t (Some (done d)) None) p
+
+-- ---- a comment
+
+pub comment_takes : (s : State) (b : Builder) → Keeps b s → Takes {T = Unit {0}} s Comment (Ok tt) b
+comment_takes (reading opens) b h = (reading opens, refl, refl, h)
+comment_takes (done e) b h = (done e, refl, refl, h)

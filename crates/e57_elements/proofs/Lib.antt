@@ -1,0 +1,8 @@
+mod Runs
+mod Represents
+mod Nodes
+mod Limits
+mod Builds
+mod Writing
+mod Elements
+mod Spelled

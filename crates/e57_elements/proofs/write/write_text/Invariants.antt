@@ -1,0 +1,6 @@
+use Rattle.std.proofs.Common.{◌≡◌, ◌++◌, take}
+use Rattle.e57_elements.specs.Spelling.{text_byte, written}
+use Rattle.e57_elements.proofs.write.write_text.Given as goal
+
+abbrev pub invariant-loop-b : goal.invariant-loop-b
+invariant-loop-b l = l.out.items ≡ l.initial.out.items ++ written text_byte (take l.b-index l.text)

@@ -1,0 +1,60 @@
+-- What the builder of a tree keeps of the machine's state.
+use Rattle.std.specs.Prelude.{◌≡◌, ℕ, ◌+◌, ◌^◌, ◌≤◌, nat_lt, ◌&&◌, Bool, true, false, List, [], ◌∷◌, ◌++◌, length, Option, Some, None, Result, Ok, Err, if◌then◌else◌}
+use Rattle.e57_pieces.specs.declared.piece.Piece.{Piece}
+use Rattle.e57_elements.specs.declared.tree.RawNode.{RawNode}
+use Rattle.e57_elements.specs.declared.builder.Mark.{Mark}
+use Rattle.e57_elements.specs.declared.builder.Builder.{Builder}
+use Rattle.e57_elements.specs.declared.builder.Stop.{Stop}
+use Rattle.e57_elements.specs.declared.builder.Stop.TheVariants.{Nest, Limit, Memory}
+use Rattle.e57_elements.specs.Nested.{only_space}
+use Rattle.e57_elements.specs.Fault.{limit}
+use Rattle.e57_elements.specs.Machine.{Open, State, reading, done, nodes_of, state_nodes, step, passes_in}
+
+-- where an open element's node stands, and the text so far
+abbrev pub mark_of : Open → List Open → Mark
+mark_of top outer = record { place = length (nodes_of outer); text = top.text }
+
+abbrev pub marks_of : List Open → List Mark
+marks_of [] = []
+marks_of (top ∷ outer) = marks_of outer ++ mark_of top outer ∷ []
+
+abbrev pub state_marks : State → List Mark
+state_marks (reading opens) = marks_of opens
+state_marks (done e) = []
+
+abbrev pub is_done : State → Bool
+is_done (reading opens) = false
+is_done (done e) = true
+
+-- The builder is in the state.
+pub record Keeps (builder : Builder) (state : State) : Type 0 where
+  pub nodes : builder.nodes.items ≡ state_nodes state
+  pub marks : builder.marks.items ≡ state_marks state
+  pub done : builder.done ≡ is_done state
+  pub few : length (state_nodes state) ≤ 2 ^ 20
+
+-- it is in some state
+pub record IsBuilder (builder : Builder) : Type 0 where
+  pub state : State
+  pub keeps : Keeps builder state
+
+-- What a builder that was in the state did with a piece.
+abbrev pub Takes : {T : Type 0} → State → Piece → Result T Stop → Builder → Type 0
+Takes before piece (Ok x) new = (after : State) × (step before piece ≡ Some after) × (passes_in before piece ≡ None) × Keeps new after
+Takes before piece (Err Nest) new = step before piece ≡ None
+Takes before piece (Err (Limit b)) new = (after : State) × (step before piece ≡ Some after) × (passes_in before piece ≡ Some b)
+Takes before piece (Err Memory) new = Unit {0}
+
+-- Whether an element with so many attributes may begin in the state.
+abbrev pub Admits : {T : Type 0} → State → ℕ → Result T Stop → Type 0
+Admits (reading opens) attrs (Ok x) = limit attrs (length opens + 1) (length (nodes_of opens) + 1) ≡ None
+Admits (reading opens) attrs (Err Nest) = ⊥
+Admits (reading opens) attrs (Err (Limit b)) = limit attrs (length opens + 1) (length (nodes_of opens) + 1) ≡ Some b
+Admits (done e) attrs (Ok x) = ⊥
+Admits (done e) attrs (Err Nest) = Unit {0}
+Admits (done e) attrs (Err (Limit b)) = ⊥
+Admits state attrs (Err Memory) = ⊥
+
+-- the node of an ended element
+abbrev pub ended_node : RawNode → List RawNode → List ℕ → RawNode
+ended_node node below text = record { name = node.name; attrs = node.attrs; text = if nat_lt 1 (length below + 1) && only_space text then [] else text; size = length below + 1 }

@@ -1,0 +1,207 @@
+//! The tree of the pieces that are read so far.
+
+ghost use Rattle.std.specs.Prelude.{◌≡◌, ◌^◌, ◌<◌, ◌≤◌, ◌∷◌, ◌++◌, [], List, length, OnOk};
+
+use crate::text::{is_only_space, TextOut};
+use crate::tree::RawNode;
+use e57_base::Octets;
+use e57_pieces::{Attrs, Piece};
+use std::alloc::{AllocError, AllocFailed, Global};
+
+/// An open element: where its node stands, and its text so far.
+#[derive(Drop)]
+pub struct Mark {
+    pub place: usize,
+    pub text: TextOut,
+}
+
+impl Mark {
+    ghost use Rattle.e57_elements.specs.declared.tree.RawNode.{RawNode};
+    ghost use Rattle.e57_elements.specs.Builder.{ended_node};
+
+    /// Ends the element: its node gets its text and its size.
+    fn end(self, nodes: &mut Vec<RawNode>)
+        requires within { self.place < length nodes.old.items }
+        requires few { length nodes.old.items ≤ 2 ^ 20 }
+        ensures {
+            (before : List RawNode) (node : RawNode) (below : List RawNode)
+            → nodes.old.items ≡ before ++ node ∷ below → length before ≡ self.place
+            → nodes.new.items ≡ before ++ ended_node node below self.text ∷ below
+        }
+    {
+        let size = nodes.len() - self.place;
+        let text = self.text.beside(size > 1);
+        let node = &mut nodes[self.place];
+        node.size = size as u32;
+        node.text = text;
+    }
+}
+
+/// Why a piece isn't taken.
+#[derive(Clone, Copy, Debug, PartialEq, Eq)]
+pub enum Stop {
+    /// With it the pieces begin no nested list.
+    Nest,
+    /// It passes a limit: 1 attributes, 2 depth, 3 elements.
+    Limit(u64),
+    /// Memory ran out.
+    Memory,
+}
+
+impl From<AllocError> for Stop {
+    ghost use Rattle.e57_elements.specs.declared.builder.Stop.TheVariants.{Memory};
+
+    ghost from_gives = { λ _ stop. stop ≡ Memory };
+
+    fn from(_error: AllocError) -> Stop {
+        Stop::Memory
+    }
+}
+
+impl<T: Drop> From<AllocFailed<T>> for Stop {
+    ghost use Rattle.e57_elements.specs.declared.builder.Stop.TheVariants.{Memory};
+
+    ghost from_gives = { λ _ stop. stop ≡ Memory };
+
+    fn from(_error: AllocFailed<T>) -> Stop {
+        Stop::Memory
+    }
+}
+
+/// The nodes so far in preorder, of which those of open elements lack text and size; the open elements, the innermost
+/// last; and whether the root has ended.
+#[derive(Drop)]
+pub struct Builder {
+    pub nodes: Vec<RawNode>,
+    pub marks: Vec<Mark>,
+    pub done: bool,
+}
+
+impl Builder {
+    ghost use Rattle.e57_pieces.specs.declared.piece.Piece.TheVariants.{Start, Empty, End, Comment, CData, Text};
+    ghost use Rattle.e57_elements.specs.Machine.{State, reading};
+    ghost use Rattle.e57_elements.specs.Builder.{Keeps, IsBuilder, Takes, Admits};
+
+    /// Before the first piece.
+    pub fn new(alloc: Global) -> Builder
+        ensures { Keeps result (reading []) }
+    {
+        Builder {
+            nodes: Vec::new(alloc),
+            marks: Vec::new(alloc),
+            done: false,
+        }
+    }
+
+    /// Takes the next piece.
+    pub fn take(&mut self, alloc: Global, piece: Piece) -> Result<(), Stop>
+        requires { IsBuilder self.old }
+        ensures { (state : State) → Keeps self.old state → Takes state piece result self.new }
+    {
+        match piece {
+            Piece::Start { name, attrs } => self.start(alloc, name, attrs),
+            Piece::Empty { name, attrs } => self.empty(alloc, name, attrs),
+            Piece::End { name } => self.end(&name),
+            Piece::Comment => Ok(()),
+            Piece::CData { text } => self.text(&text),
+            Piece::Text { text } => self.run(&text),
+        }
+    }
+
+    /// Whether an element with so many attributes may begin.
+    fn admit(&self, attrs: usize) -> Result<(), Stop>
+        ensures { (state : State) → Keeps self.now state → Admits state attrs result }
+    {
+        if self.done {
+            return Err(Stop::Nest);
+        }
+        if attrs > 64 {
+            return Err(Stop::Limit(1));
+        }
+        if self.marks.len() >= 64 {
+            return Err(Stop::Limit(2));
+        }
+        if self.nodes.len() >= 1 << 20 {
+            return Err(Stop::Limit(3));
+        }
+        Ok(())
+    }
+
+    /// Takes a start tag.
+    fn start(&mut self, alloc: Global, name: Octets, attrs: Attrs) -> Result<(), Stop>
+        ensures { (state : State) → Keeps self.old state → Takes state (Start name attrs) result self.new }
+    {
+        if let Err(stop) = self.admit(attrs.len()) {
+            return Err(stop);
+        }
+        let place = self.nodes.len();
+        self.nodes.push(RawNode {
+            name,
+            attrs,
+            text: Octets::new(Vec::new(alloc)),
+            size: 0,
+        })?;
+        self.marks.push(Mark {
+            place,
+            text: TextOut::new(alloc),
+        })?;
+        Ok(())
+    }
+
+    /// Takes an empty tag.
+    fn empty(&mut self, alloc: Global, name: Octets, attrs: Attrs) -> Result<(), Stop>
+        ensures { (state : State) → Keeps self.old state → Takes state (Empty name attrs) result self.new }
+    {
+        if let Err(stop) = self.admit(attrs.len()) {
+            return Err(stop);
+        }
+        self.nodes.push(RawNode {
+            name,
+            attrs,
+            text: Octets::new(Vec::new(alloc)),
+            size: 1,
+        })?;
+        self.done = self.marks.is_empty();
+        Ok(())
+    }
+
+    /// Takes an end tag.
+    fn end(&mut self, name: &Octets) -> Result<(), Stop>
+        requires { IsBuilder self.old }
+        ensures { (state : State) → Keeps self.old state → Takes state (End name.now) result self.new }
+    {
+        let Some(mark) = self.marks.pop() else {
+            return Err(Stop::Nest);
+        };
+        if self.nodes[mark.place].name.as_slice() != name.as_slice() {
+            return Err(Stop::Nest);
+        }
+        mark.end(&mut self.nodes);
+        self.done = self.marks.is_empty();
+        Ok(())
+    }
+
+    /// Takes CDATA, or a text run in an element.
+    fn text(&mut self, text: &Octets) -> Result<(), Stop>
+        ensures { (state : State) → Keeps self.old state → Takes state (CData text.now) result self.new }
+    {
+        let Some(mark) = self.marks.last_mut() else {
+            return Err(Stop::Nest);
+        };
+        mark.text.push(text.as_slice())?;
+        Ok(())
+    }
+
+    /// Takes a text run.
+    fn run(&mut self, text: &Octets) -> Result<(), Stop>
+        ensures { (state : State) → Keeps self.old state → Takes state (Text text.now) result self.new }
+    {
+        if !self.marks.is_empty() {
+            return self.text(text);
+        }
+        if !is_only_space(text.as_slice()) {
+            return Err(Stop::Nest);
+        }
+        Ok(())
+    }
+}

@@ -1,0 +1,11 @@
+//! The element tree of a file: read from its text, written, and made by calls.
+#![tactic(auto)]
+
+mod builder;
+mod text;
+mod tree;
+mod write;
+
+pub use e57_pieces::{Attr, Attrs};
+pub use tree::{RawNode, RawTree};
+pub use write::write_elements;
