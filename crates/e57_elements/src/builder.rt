@@ -131,9 +131,7 @@ impl Builder {
     fn start(&mut self, alloc: Global, name: Octets, attrs: Attrs) -> Result<(), Stop>
         ensures { (state : State) → Keeps self.old state → Takes state (Start name attrs) result self.new }
     {
-        if let Err(stop) = self.admit(attrs.len()) {
-            return Err(stop);
-        }
+        self.admit(attrs.len())?;
         let place = self.nodes.len();
         self.nodes.push(RawNode {
             name,
@@ -152,9 +150,7 @@ impl Builder {
     fn empty(&mut self, alloc: Global, name: Octets, attrs: Attrs) -> Result<(), Stop>
         ensures { (state : State) → Keeps self.old state → Takes state (Empty name attrs) result self.new }
     {
-        if let Err(stop) = self.admit(attrs.len()) {
-            return Err(stop);
-        }
+        self.admit(attrs.len())?;
         self.nodes.push(RawNode {
             name,
             attrs,
