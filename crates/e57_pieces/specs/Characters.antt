@@ -22,6 +22,11 @@ abbrev pub BeginsForbidden : List ℕ → Type 0
 BeginsForbidden [] = Unit {0}
 BeginsForbidden (b ∷ bs) = (c : ℕ) × (rest : List ℕ) × (is_character c ≡ false) × (b ∷ bs ≡ encode_utf8 c ++ rest)
 
+-- The front is characters, and what follows begins with none.
+pub record IsClean (front back : List ℕ) : Type 0 where
+  pub characters : AreCharacters front
+  pub forbidden : BeginsForbidden back
+
 -- in UTF-8 only control bytes, and EF BF BE and EF BF BF, begin a number that is no character
 unfoldable pub is_control : ℕ → Bool
 is_control b = nat_lt b 0x20 && not (b == 0x9 || b == 0xA || b == 0xD)
@@ -32,7 +37,12 @@ is_noncharacter (a ∷ []) = false
 is_noncharacter (a ∷ b ∷ []) = false
 is_noncharacter (a ∷ b ∷ c ∷ bs) = a == 0xEF && b == 0xBF && nat_le 0xBE c
 
+-- no character begins here
+unfoldable pub forbids : List ℕ → Bool
+forbids [] = false
+forbids (b ∷ bs) = is_control b || is_noncharacter (b ∷ bs)
+
 -- how many bytes stand before the first that begins no character
 unfoldable pub clean_len : List ℕ → ℕ
 clean_len [] = 0
-clean_len (b ∷ bs) = if is_control b || is_noncharacter (b ∷ bs) then 0 else suc (clean_len bs)
+clean_len (b ∷ bs) = if forbids (b ∷ bs) then 0 else suc (clean_len bs)

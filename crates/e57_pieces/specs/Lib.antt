@@ -4,3 +4,5 @@ pub mod Grammar
 pub mod Cut
 pub mod Start
 pub mod Reading
+pub mod Gives
+pub mod Laws

@@ -1,13 +1,13 @@
 -- Reading from left to right: what stands at the front of a text, and the rest, or none.
-use Rattle.std.specs.Prelude.{◌≡◌, ℕ, zero, suc, ◌+◌, ◌<◌, ◌≤◌, Bool, true, false, ◌||◌, ◌&&◌, ◌==◌, nat_le, List, [], ◌∷◌, ◌++◌, length, Option, Some, None, Result, Ok, Err, encode_utf8, codes, if◌then◌else◌}
+use Rattle.std.specs.Prelude.{◌≡◌, ℕ, zero, suc, ◌+◌, ◌<◌, ◌≤◌, Bool, true, false, ◌||◌, ◌&&◌, ◌==◌, nat_le, List, [], ◌∷◌, ◌++◌, length, take, drop, Option, Some, None, encode_utf8, codes, if◌then◌else◌}
 use Rattle.std.specs.Option.{option_or, option_map}
 use Rattle.e57_pieces.specs.declared.piece.Attr.{Attr}
 use Rattle.e57_pieces.specs.declared.piece.Piece.{Piece}
 use Rattle.e57_pieces.specs.declared.piece.Piece.TheVariants.{Start, Empty, End, Comment, CData, Text}
-use Rattle.e57_pieces.specs.Characters.{is_character}
+use Rattle.e57_pieces.specs.Characters.{is_character, clean_len, IsClean}
 use Rattle.e57_pieces.specs.Words.{is_space, begins_name, goes_on_name, is_decimal, is_hexadecimal, is_plain, number}
 use Rattle.e57_pieces.specs.Grammar.{differ}
-use Rattle.e57_pieces.specs.Start.{strip, encoding_fits}
+use Rattle.e57_pieces.specs.Start.{strip, declares, after_mark, encoding_fits}
 
 infixl 10 ◌>>=◌
 abbrev pub ◌>>=◌ : {A B : Type 0} → Option A → (A → Option B) → Option B
@@ -145,3 +145,24 @@ declaration_at bytes = do
   inside ← inside_at start
   rest ← strip (codes "?>") inside.1
   given (encoding_fits inside.0) rest
+
+-- ---- the whole of a text in UTF-8: characters up to the first other one, and what is left from there on
+
+abbrev pub clean : List ℕ → List ℕ
+clean text = take (clean_len text) text
+
+abbrev pub unclean : List ℕ → List ℕ
+unclean text = drop (clean_len text) text
+
+-- the piece at the front, and the rest
+unfoldable pub next_at : List ℕ → Option (Piece × List ℕ)
+next_at text = option_map (λ x. (x.0, x.1 ++ unclean text)) (piece_at (clean text))
+
+-- where the pieces begin
+unfoldable pub body_at : List ℕ → Option (List ℕ)
+body_at text = if declares (after_mark text) then option_map (λ rest. rest ++ unclean (after_mark text)) (declaration_at (clean (after_mark text))) else Some (after_mark text)
+
+-- the first n bytes are characters, and the next begins none
+pub record IsCleanAt (text : List ℕ) (n : ℕ) : Type 0 where
+  pub within : n ≤ length text
+  pub clean : IsClean (take n text) (drop n text)

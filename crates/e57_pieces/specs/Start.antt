@@ -1,6 +1,9 @@
 -- What stands before the pieces: the byte order mark and the declaration, each where it is there.
 use Rattle.std.specs.Prelude.{◌≡◌, ℕ, ◌-◌, ◌||◌, ◌==◌, ◌⊎◌, Bool, true, false, List, [], ◌∷◌, ◌++◌, length, map, not, ◌&&◌, Option, Some, None, codes, if◌then◌else◌}
 use Rattle.std.specs.Str.{bytes_eq, str_to_ascii_lowercase}
+use Rattle.e57_base.specs.declared.kind.Kind.TheVariants.{Piece}
+use Rattle.e57_base.specs.declared.fault.TextFault.{TextFault}
+use Rattle.e57_base.specs.declared.fault.TextFault.TheVariants.{Refused, Memory}
 use Rattle.e57_pieces.specs.declared.piece.Attr.{Attr}
 use Rattle.e57_pieces.specs.Characters.{AreCharacters}
 use Rattle.e57_pieces.specs.Words.{is_space}
@@ -10,7 +13,7 @@ use Rattle.e57_pieces.specs.Grammar.{IsInside}
 unfoldable pub strip : List ℕ → List ℕ → Option (List ℕ)
 strip [] bytes = Some bytes
 strip (p ∷ ps) [] = None
-strip (p ∷ ps) (b ∷ bs) = if p == b then strip ps bs else None
+strip (p ∷ ps) (b ∷ bs) = if b == p then strip ps bs else None
 
 -- the bytes EF BB BF
 abbrev pub mark : List ℕ
@@ -59,3 +62,8 @@ pub record BeginsNowhere (text : List ℕ) : Type 0 where
 -- where the declaration would stand: 3 after a byte order mark, else 0
 abbrev pub start_place : List ℕ → ℕ
 start_place text = length text - length (after_mark text)
+
+-- how the search for that place fails: with the fault Piece there, unless memory runs out
+abbrev pub IsStartFault : List ℕ → TextFault → Type 0
+IsStartFault text (Refused fault) = BeginsNowhere text × (fault ≡ record { kind = Piece; a = start_place text; b = 0 })
+IsStartFault text Memory = Unit {0}

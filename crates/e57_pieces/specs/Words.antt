@@ -2,6 +2,8 @@
 use Rattle.std.specs.Prelude.{◌≡◌, ℕ, ◌+◌, ◌*◌, Bool, true, false, ◌||◌, ◌==◌, nat_le, not, List, [], ◌∷◌, ◌++◌, Option, Some, None, if◌then◌else◌}
 use Rattle.std.specs.List.{AllByRecursion}
 use Rattle.std.specs.Char.{digit_value}
+use Rattle.e57_pieces.specs.declared.words.Class.{Class}
+use Rattle.e57_pieces.specs.declared.words.Class.TheVariants.{Space, Name, Decimal, Hexadecimal}
 use Rattle.e57_pieces.specs.Characters.{between}
 
 -- space, tab, carriage return, line feed
@@ -21,6 +23,13 @@ is_decimal b = between 48 57 b
 
 unfoldable pub is_hexadecimal : ℕ → Bool
 is_hexadecimal b = between 48 57 b || between 65 70 b || between 97 102 b
+
+-- the test of a class
+abbrev pub class_test : Class → ℕ → Bool
+class_test Space = is_space
+class_test Name = goes_on_name
+class_test Decimal = is_decimal
+class_test Hexadecimal = is_hexadecimal
 
 -- a byte of a value other than `<`, `&` and its quote
 unfoldable pub is_plain : ℕ → ℕ → Bool
