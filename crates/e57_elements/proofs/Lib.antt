@@ -3,3 +3,5 @@ mod Represents
 mod Nodes
 mod Limits
 mod Builds
+mod Steps
+mod Counts
