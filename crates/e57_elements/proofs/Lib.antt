@@ -5,3 +5,5 @@ mod Limits
 mod Builds
 mod Steps
 mod Counts
+mod Characters
+mod Lawful
