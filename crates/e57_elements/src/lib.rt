@@ -2,8 +2,10 @@
 #![tactic(auto)]
 
 mod builder;
+mod read;
 mod text;
 mod tree;
 
 pub use e57_pieces::{Attr, Attrs};
+pub use read::{one_answer, read_elements};
 pub use tree::{RawNode, RawTree};
