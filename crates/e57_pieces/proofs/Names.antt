@@ -11,7 +11,7 @@ use Rattle.std.proofs.lemmas.Map.Text.{is_eq-slice_cmp}
 use Rattle.e57_pieces.specs.declared.piece.Attr.{Attr}
 use Rattle.e57_pieces.specs.Grammar.{differ}
 
-from_here : (attrs : List Attr) (i : ℕ) (a : Attr) → i < length attrs → slice_get attrs i ≡ Some a → drop i attrs ≡ a ∷ drop (i + 1) attrs
+pub from_here : (attrs : List Attr) (i : ℕ) (a : Attr) → i < length attrs → slice_get attrs i ≡ Some a → drop i attrs ≡ a ∷ drop (i + 1) attrs
 from_here attrs i a lt got = drop_more attrs i a lt ∙ ap (λ (x : Attr). x ∷ drop (i + 1) attrs) (get_or_from_slice_get attrs i a a got)
 
 same_truth : (b c : Bool) → (b ≡ true → c ≡ true) → (c ≡ true → b ≡ true) → b ≡ c

@@ -1,6 +1,7 @@
 -- Reading from left to right: what stands at the front of a text, and the rest, or none.
 use Rattle.std.specs.Prelude.{◌≡◌, ℕ, zero, suc, ◌+◌, ◌<◌, ◌≤◌, Bool, true, false, ◌||◌, ◌&&◌, ◌==◌, nat_le, List, [], ◌∷◌, ◌++◌, length, take, drop, Option, Some, None, encode_utf8, codes, if◌then◌else◌}
 use Rattle.std.specs.Option.{option_or, option_map}
+use Rattle.std.specs.Str.{IsUtf8}
 use Rattle.e57_pieces.specs.declared.piece.Attr.{Attr}
 use Rattle.e57_pieces.specs.declared.piece.Piece.{Piece}
 use Rattle.e57_pieces.specs.declared.piece.Piece.TheVariants.{Start, Empty, End, Comment, CData, Text}
@@ -162,7 +163,8 @@ next_at text = option_map (λ x. (x.0, x.1 ++ unclean text)) (piece_at (clean te
 unfoldable pub body_at : List ℕ → Option (List ℕ)
 body_at text = if declares (after_mark text) then option_map (λ rest. rest ++ unclean (after_mark text)) (declaration_at (clean (after_mark text))) else Some (after_mark text)
 
--- the first n bytes are characters, and the next begins none
+-- the text is UTF-8, its first n bytes are characters, and the next begins none
 pub record IsCleanAt (text : List ℕ) (n : ℕ) : Type 0 where
+  pub utf8 : IsUtf8 text
   pub within : n ≤ length text
   pub clean : IsClean (take n text) (drop n text)

@@ -34,10 +34,13 @@ declares text = goes_on (strip (codes "<?xml") text) where
   goes_on (Some []) = false
   goes_on (Some (b ∷ bs)) = is_space b || b == 63
 
--- `UTF-8` in any ASCII case, where the attribute is `encoding`
+-- an attribute `encoding` is `UTF-8` in any ASCII case
+abbrev pub attr_fits : Attr → Bool
+attr_fits attr = not (bytes_eq attr.name (codes "encoding")) || bytes_eq (str_to_ascii_lowercase attr.value) (codes "utf-8")
+
 abbrev pub encoding_fits : List Attr → Bool
 encoding_fits [] = true
-encoding_fits (attr ∷ attrs) = (not (bytes_eq attr.name (codes "encoding")) || bytes_eq (str_to_ascii_lowercase attr.value) (codes "utf-8")) && encoding_fits attrs
+encoding_fits (attr ∷ attrs) = attr_fits attr && encoding_fits attrs
 
 -- `<?xml`, attributes as in a start tag, white space perhaps, and `?>`
 pub record IsDeclaration (spelling : List ℕ) : Type 0 where

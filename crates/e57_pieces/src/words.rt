@@ -27,7 +27,7 @@ fn begins_name(b: u8) -> bool
 
 /// Whether the byte is in the class.
 #[tactic(auto, unfolding(crate::specs::Words::goes_on_name, crate::specs::Words::is_space, crate::specs::Words::is_decimal, crate::specs::Words::is_hexadecimal))]
-fn is_in(class: Class, b: u8) -> bool
+pub fn is_in(class: Class, b: u8) -> bool
     ensures { result ≡ class_test class b }
 {
     match class {

@@ -112,8 +112,8 @@ value_took text x e =
       parts = q.1 ∙ ap (λ (u : List ℕ). a.0.0 ∷ u) (t.parts ∙ ap (λ (u : List ℕ). t.spelling ++ u) (strip_took (a.0.0 ∷ []) (text_at a.0.0 a.0.1).1 b.0 b.1));
     } in
     subst (λ (y : List ℕ × List ℕ). TookValue text y.0 y.1) (one_some ((text_at a.0.0 a.0.1).0, b.0) x b.2) made where
-  one_some : (x y : List ℕ × List ℕ) → Some x ≡ Some y → x ≡ y
-  one_some x y e = cc
+      one_some : (x y : List ℕ × List ℕ) → Some x ≡ Some y → x ≡ y
+      one_some x y e = cc
 
 value_again : (q : ℕ) (value meaning rest : List ℕ) → IsQuote q → Means (is_plain q) value meaning → value_at (q ∷ (value ++ (q ∷ rest))) ≡ Some (meaning, rest)
 unfolding value_at
@@ -143,7 +143,7 @@ attr_took text x e =
     let n = name_took a.0 b.0 b.1 in
     let v = value_took (after is_space c.0) d.0 d.1 in
     let chain = chained text s.spelling a.0 b.0.0 b.0.1 (run is_space b.0.1) (after is_space b.0.1) c.0 (run is_space c.0) (after is_space c.0) (v.quote ∷ (v.value ++ (v.quote ∷ d.0.1)))
-      s.parts n.1 (run_after is_space b.0.1) (strip_took (codes "=") (after is_space b.0.1) c.0 c.1) (run_after is_space c.0) v.parts in
+    s.parts n.1 (run_after is_space b.0.1) (strip_took (codes "=") (after is_space b.0.1) c.0 c.1) (run_after is_space c.0) v.parts in
     let made : Took text d.0.1 (λ s. IsAttr s (record { name = b.0.0; value = d.0.0 })) = record {
       spelling = s.spelling ++ (b.0.0 ++ (run is_space b.0.1 ++ (codes "=" ++ (run is_space c.0 ++ (v.quote ∷ v.value ++ v.quote ∷ [])))));
       holds = record {
@@ -162,8 +162,8 @@ attr_took text x e =
       parts = chain ∙ sym (spread s.spelling b.0.0 (run is_space b.0.1) (run is_space c.0) v.value v.quote d.0.1);
     } in
     subst (λ (y : Attr × List ℕ). Took text y.1 (λ s. IsAttr s y.0)) (one_some (record { name = b.0.0; value = d.0.0 }, d.0.1) x d.2) made where
-  one_some : (x y : Attr × List ℕ) → Some x ≡ Some y → x ≡ y
-  one_some x y e = cc
+      one_some : (x y : Attr × List ℕ) → Some x ≡ Some y → x ≡ y
+      one_some x y e = cc
 
 attr_steps : (text start name left_on sign_on sign value_on value rest : List ℕ) → space_at text ≡ Some start → name_at start ≡ Some (name, left_on) → after is_space left_on ≡ sign_on → strip (codes "=") sign_on ≡ Some sign → after is_space sign ≡ value_on → value_at value_on ≡ Some (value, rest)
     → attr_at text ≡ Some (record { name = name; value = value }, rest)
@@ -174,13 +174,13 @@ pub attr_again : (s : List ℕ) (attr : Attr) (rest : List ℕ) → IsAttr s att
 attr_again s attr rest is =
     ap (λ (t : List ℕ). attr_at (t ++ rest)) is.spelled ∙ ap attr_at (spread is.before attr.name is.left is.right is.value is.quote rest)
     ∙ attr_steps (is.before ++ (attr.name ++ (is.left ++ (61 ∷ (is.right ++ (is.quote ∷ (is.value ++ (is.quote ∷ rest)))))))) (attr.name ++ (is.left ++ (61 ∷ (is.right ++ (is.quote ∷ (is.value ++ (is.quote ∷ rest))))))) attr.name
-      (is.left ++ (61 ∷ (is.right ++ (is.quote ∷ (is.value ++ (is.quote ∷ rest)))))) (61 ∷ (is.right ++ (is.quote ∷ (is.value ++ (is.quote ∷ rest))))) (is.right ++ (is.quote ∷ (is.value ++ (is.quote ∷ rest)))) (is.quote ∷ (is.value ++ (is.quote ∷ rest))) attr.value rest
-      (space_again is.before _ is.some_space is.spaces.0 (name_stops_space attr.name _ is.name))
-      (name_again attr.name _ is.name (space_stops_name is.left _ is.spaces.1 sign_no_name))
-      (run_again is_space is.left _ is.spaces.1 sign_no_space).1
-      (strip_again (codes "=") _)
-      (run_again is_space is.right _ is.spaces.2 (quote_no_space is.quote is.quotes)).1
-      (value_again is.quote is.value attr.value rest is.quotes is.means)
+    (is.left ++ (61 ∷ (is.right ++ (is.quote ∷ (is.value ++ (is.quote ∷ rest)))))) (61 ∷ (is.right ++ (is.quote ∷ (is.value ++ (is.quote ∷ rest))))) (is.right ++ (is.quote ∷ (is.value ++ (is.quote ∷ rest)))) (is.quote ∷ (is.value ++ (is.quote ∷ rest))) attr.value rest
+    (space_again is.before _ is.some_space is.spaces.0 (name_stops_space attr.name _ is.name))
+    (name_again attr.name _ is.name (space_stops_name is.left _ is.spaces.1 sign_no_name))
+    (run_again is_space is.left _ is.spaces.1 sign_no_space).1
+    (strip_again (codes "=") _)
+    (run_again is_space is.right _ is.spaces.2 (quote_no_space is.quote is.quotes)).1
+    (value_again is.quote is.value attr.value rest is.quotes is.means)
 
 -- ---- attributes one after another
 
@@ -239,8 +239,8 @@ inside_took text x close rest e f =
       parts = gathered text t.spelling (attrs_at (length text) text).1 (run is_space (attrs_at (length text) text).1) (after is_space (attrs_at (length text) text).1) close rest t.parts (run_after is_space (attrs_at (length text) text).1) (strip_took close (after is_space (attrs_at (length text) text).1) rest closed);
     } in
     subst (λ (y : List Attr × List ℕ). Took text rest (λ s. IsInside s y.0 close)) g.1 made where
-  gathered : (text front left space end_on close rest : List ℕ) → text ≡ front ++ left → left ≡ space ++ end_on → end_on ≡ close ++ rest → text ≡ (front ++ (space ++ close)) ++ rest
-  gathered text front left space end_on close rest a b c = a ∙ ap (λ (t : List ℕ). front ++ t) (b ∙ ap (λ (t : List ℕ). space ++ t) c) ∙ sym (append_assoc front (space ++ close) rest ∙ ap (λ (t : List ℕ). front ++ t) (append_assoc space close rest))
+      gathered : (text front left space end_on close rest : List ℕ) → text ≡ front ++ left → left ≡ space ++ end_on → end_on ≡ close ++ rest → text ≡ (front ++ (space ++ close)) ++ rest
+      gathered text front left space end_on close rest a b c = a ∙ ap (λ (t : List ℕ). front ++ t) (b ∙ ap (λ (t : List ℕ). space ++ t) c) ∙ sym (append_assoc front (space ++ close) rest ∙ ap (λ (t : List ℕ). front ++ t) (append_assoc space close rest))
 
 no_attr : (space rest : List ℕ) → Each is_space space → Stops is_space rest → Stops begins_name rest → attr_at (space ++ rest) ≡ None
 unfolding attr_at
@@ -258,5 +258,5 @@ inside_again s attrs close rest is stops ends =
     let whole : s ++ rest ≡ is.front ++ (is.space ++ (close ++ rest)) = ap (λ (t : List ℕ). t ++ rest) is.spelled ∙ append_assoc is.front (is.space ++ close) rest ∙ ap (λ (t : List ℕ). is.front ++ t) (append_assoc is.space close rest) in
     let long : length attrs ≤ length (is.front ++ (is.space ++ (close ++ rest))) = omega (arith, attrs_long is.front attrs is.attributes, length-append is.front (is.space ++ (close ++ rest))) in
     ap inside_at whole ∙ inside_steps (is.front ++ (is.space ++ (close ++ rest))) (is.space ++ (close ++ rest)) (close ++ rest) attrs
-      (attrs_again attrs is.front (is.space ++ (close ++ rest)) (length (is.front ++ (is.space ++ (close ++ rest)))) is.attributes (no_attr is.space (close ++ rest) is.white stops ends) long)
-      is.names_differ (run_again is_space is.space (close ++ rest) is.white stops).1
+    (attrs_again attrs is.front (is.space ++ (close ++ rest)) (length (is.front ++ (is.space ++ (close ++ rest)))) is.attributes (no_attr is.space (close ++ rest) is.white stops ends) long)
+    is.names_differ (run_again is_space is.space (close ++ rest) is.white stops).1

@@ -216,7 +216,7 @@ within_clean (d ∷ ds) (c ∷ cs) b r forbidden each e =
 pub in_front : (front back s r : List ℕ) → IsClean front back → front ++ back ≡ s ++ r → AreCharacters s → (more : List ℕ) × (front ≡ s ++ more) × (r ≡ more ++ back)
 in_front front back s r clean e are =
     let whole : encodes clean.characters.numbers ++ back ≡ encodes are.numbers ++ r =
-      ap (λ (t : List ℕ). t ++ back) clean.characters.spelled ∙ e ∙ ap (λ (t : List ℕ). t ++ r) (sym are.spelled) in
+    ap (λ (t : List ℕ). t ++ back) clean.characters.spelled ∙ e ∙ ap (λ (t : List ℕ). t ++ r) (sym are.spelled) in
     let more = within_clean clean.characters.numbers are.numbers back r clean.forbidden are.each whole in
     (more.0, sym clean.characters.spelled ∙ more.1 ∙ ap (λ (t : List ℕ). t ++ more.0) are.spelled, more.2)
 
@@ -236,25 +236,27 @@ control_is b low =
     elim (tested (eqb b 9 || eqb b 10 || eqb b 13)) [
       | inl space ↦ rw (is_space_number b space, space, and_no (ltb b 32)) refl
       | inr other ↦
-        let apart = or_false (eqb b 9 || eqb b 10) (eqb b 13) other in
-        let apart2 = or_false (eqb b 9) (eqb b 10) apart.0 in
-        elim (cases_lt b 32) [
-          | inl lt ↦ rw (lt-ltb b 32 lt, other, no_number b (λ n. no_control b lt (eqb-false b 9 apart2.0) (eqb-false b 10 apart2.1) (eqb-false b 13 apart.1) n)) refl
-          | inr le ↦ rw (is_low b le (omega arith), not_below b 32 le) refl
-        ]
+          let apart = or_false (eqb b 9 || eqb b 10) (eqb b 13) other in
+          let apart2 = or_false (eqb b 9) (eqb b 10) apart.0 in
+          elim (cases_lt b 32) [
+            | inl lt ↦ rw (lt-ltb b 32 lt, other, no_number b (λ n. no_control b lt (eqb-false b 9 apart2.0) (eqb-false b 10 apart2.1) (eqb-false b 13 apart.1) n)) refl
+            | inr le ↦ rw (is_low b le (omega arith), not_below b 32 le) refl
+          ]
     ] where
-  and_no : (b : Bool) → (b && false) ≡ false
-  and_no true = refl
-  and_no false = refl
-  not_below : (a b : ℕ) → b ≤ a → ltb a b ≡ false
-  not_below a b le = false_from (ltb a b) (λ e. absurd (omega (arith, ltb-true a b e)))
-  no_control : (b : ℕ) → b < 32 → b ≢ 9 → b ≢ 10 → b ≢ 13 → IsNumber b → ⊥
-  no_control b lt n9 n10 n13 (inl is) = n9 is
-  no_control b lt n9 n10 n13 (inr (inl is)) = n10 is
-  no_control b lt n9 n10 n13 (inr (inr (inl is))) = n13 is
-  no_control b lt n9 n10 n13 (inr (inr (inr (inl low)))) = omega arith
-  no_control b lt n9 n10 n13 (inr (inr (inr (inr (inl middle))))) = omega arith
-  no_control b lt n9 n10 n13 (inr (inr (inr (inr (inr high))))) = omega arith
+      and_no : (b : Bool) → (b && false) ≡ false
+      and_no true = refl
+      and_no false = refl
+
+      not_below : (a b : ℕ) → b ≤ a → ltb a b ≡ false
+      not_below a b le = false_from (ltb a b) (λ e. absurd (omega (arith, ltb-true a b e)))
+
+      no_control : (b : ℕ) → b < 32 → b ≢ 9 → b ≢ 10 → b ≢ 13 → IsNumber b → ⊥
+      no_control b lt n9 n10 n13 (inl is) = n9 is
+      no_control b lt n9 n10 n13 (inr (inl is)) = n10 is
+      no_control b lt n9 n10 n13 (inr (inr (inl is))) = n13 is
+      no_control b lt n9 n10 n13 (inr (inr (inr (inl low)))) = omega arith
+      no_control b lt n9 n10 n13 (inr (inr (inr (inr (inl middle))))) = omega arith
+      no_control b lt n9 n10 n13 (inr (inr (inr (inr (inr high))))) = omega arith
 
 -- a byte that begins none of the two
 other_lead : (b : ℕ) (rest : List ℕ) → b ≢ 239 → is_noncharacter (b ∷ rest) ≡ false
@@ -309,9 +311,9 @@ clean_1 : (c : ℕ) (rest : List ℕ) → c < 128 → is_character c ≡ true �
 clean_1 c rest lt yes_here =
     let ne : c ≢ 239 = omega arith in
     omega (arith, lets_pass c rest (flipped (is_control c) (sym (control_is c lt) ∙ yes_here)) (other_lead c rest ne)) where
-  flipped : (b : Bool) → not b ≡ true → b ≡ false
-  flipped true e = sym e
-  flipped false e = refl
+      flipped : (b : Bool) → not b ≡ true → b ≡ false
+      flipped true e = sym e
+      flipped false e = refl
 
 clean_2 : (c : ℕ) (rest : List ℕ) → 128 ≤ c → c < 2048 → clean_len ((192 + c / 64) ∷ next c ∷ rest) ≡ 2 + clean_len rest
 clean_2 c rest low high =
@@ -319,13 +321,22 @@ clean_2 c rest low high =
 
 clean_3 : (c : ℕ) (rest : List ℕ) → 2048 ≤ c → c < 65534 → clean_len ((224 + c / 4096) ∷ next (c / 64) ∷ next c ∷ rest) ≡ 3 + clean_len rest
 clean_3 c rest low high =
-    omega (arith, lets_pass (224 + c / 4096) (next (c / 64) ∷ next c ∷ rest) (no_control_from (224 + c / 4096) (omega arith)) (three (224 + c / 4096) (next (c / 64)) (next c) rest (λ x y z. omega arith)),
-      passes (next (c / 64)) (next c ∷ rest) (omega arith) (omega arith), passes (next c) rest (omega arith) (omega arith))
+    omega (
+      arith,
+      lets_pass (224 + c / 4096) (next (c / 64) ∷ next c ∷ rest) (no_control_from (224 + c / 4096) (omega arith)) (three (224 + c / 4096) (next (c / 64)) (next c) rest (λ x y z. omega arith)),
+      passes (next (c / 64)) (next c ∷ rest) (omega arith) (omega arith),
+      passes (next c) rest (omega arith) (omega arith),
+    )
 
 clean_4 : (c : ℕ) (rest : List ℕ) → 65536 ≤ c → clean_len ((240 + c / 262144) ∷ next (c / 4096) ∷ next (c / 64) ∷ next c ∷ rest) ≡ 4 + clean_len rest
 clean_4 c rest low =
-    omega (arith, passes (240 + c / 262144) (next (c / 4096) ∷ next (c / 64) ∷ next c ∷ rest) (omega arith) (omega arith),
-      passes (next (c / 4096)) (next (c / 64) ∷ next c ∷ rest) (omega arith) (omega arith), passes (next (c / 64)) (next c ∷ rest) (omega arith) (omega arith), passes (next c) rest (omega arith) (omega arith))
+    omega (
+      arith,
+      passes (240 + c / 262144) (next (c / 4096) ∷ next (c / 64) ∷ next c ∷ rest) (omega arith) (omega arith),
+      passes (next (c / 4096)) (next (c / 64) ∷ next c ∷ rest) (omega arith) (omega arith),
+      passes (next (c / 64)) (next c ∷ rest) (omega arith) (omega arith),
+      passes (next c) rest (omega arith) (omega arith),
+    )
 
 below_last : (c : ℕ) → c < 65536 → is_character c ≡ true → c < 65534
 below_last c lt e =
@@ -436,3 +447,12 @@ clean_numbers (c ∷ cs) e =
 -- a text in UTF-8 is clean up to the place that the bytes tell
 pub IsClean-clean_len : (text : List ℕ) → IsUtf8 text → IsClean (take (clean_len text) text) (drop (clean_len text) text)
 IsClean-clean_len text utf8 = subst (λ (t : List ℕ). IsClean (take (clean_len t) t) (drop (clean_len t) t)) utf8.1.1 (clean_numbers utf8.0 utf8.1.0)
+
+pub clean_len_le : (text : List ℕ) → clean_len text ≤ length text
+unfolding clean_len
+clean_len_le [] = omega arith
+clean_len_le (b ∷ bs) =
+    elim (tested (forbids (b ∷ bs))) [
+      | inl here ↦ rw here (omega arith)
+      | inr other ↦ rw other (omega (arith, clean_len_le bs))
+    ]

@@ -53,8 +53,8 @@ strip_took (p ∷ ps) (b ∷ bs) rest e =
       | inl same ↦ consed b p bs (ps ++ rest) (eqb-true b p same) (strip_took ps bs rest (rw same at e))
       | inr differs ↦ let f : None ≡ Some rest = rw differs at e in absurd cc
     ] where
-  consed : (b p : ℕ) (xs ys : List ℕ) → b ≡ p → xs ≡ ys → b ∷ xs ≡ p ∷ ys
-  consed b p xs ys e f = cc
+      consed : (b p : ℕ) (xs ys : List ℕ) → b ≡ p → xs ≡ ys → b ∷ xs ≡ p ∷ ys
+      consed b p xs ys e f = cc
 
 pub strip_again : (word rest : List ℕ) → strip word (word ++ rest) ≡ Some rest
 unfolding strip
@@ -153,11 +153,11 @@ cut_took word [] x e = absurd cc
 cut_took word (b ∷ bs) x e =
     elim (or_some (option_map (λ (rest : List ℕ). ([], rest)) (strip word (b ∷ bs))) (option_map (λ (y : List ℕ × List ℕ). (b ∷ y.0, y.1)) (cut_at word bs)) x e) [
       | inl here ↦
-        let m = map_some (λ (rest : List ℕ). ([], rest)) (strip word (b ∷ bs)) x here in
-        subst (λ (y : List ℕ × List ℕ). b ∷ bs ≡ y.0 ++ (word ++ y.1)) m.2 (strip_took word (b ∷ bs) m.0 m.1)
+          let m = map_some (λ (rest : List ℕ). ([], rest)) (strip word (b ∷ bs)) x here in
+          subst (λ (y : List ℕ × List ℕ). b ∷ bs ≡ y.0 ++ (word ++ y.1)) m.2 (strip_took word (b ∷ bs) m.0 m.1)
       | inr later ↦
-        let m = map_some (λ (y : List ℕ × List ℕ). (b ∷ y.0, y.1)) (cut_at word bs) x later.1 in
-        subst (λ (y : List ℕ × List ℕ). b ∷ bs ≡ y.0 ++ (word ++ y.1)) m.2 (ap (λ (t : List ℕ). b ∷ t) (cut_took word bs m.0 m.1))
+          let m = map_some (λ (y : List ℕ × List ℕ). (b ∷ y.0, y.1)) (cut_at word bs) x later.1 in
+          subst (λ (y : List ℕ × List ℕ). b ∷ bs ≡ y.0 ++ (word ++ y.1)) m.2 (ap (λ (t : List ℕ). b ∷ t) (cut_took word bs m.0 m.1))
     ]
 
 abbrev here_then : List ℕ → List ℕ × List ℕ
@@ -174,18 +174,18 @@ cut_first word (b ∷ bs) x [] back e f =
     let first : option_map here_then (strip word (b ∷ bs)) ≡ Some ([], back) = rw f (rw strip_again refl) in
     let same : x ≡ ([], back) = one_some x ([], back) (sym e ∙ rw first refl) in
     rw same (omega arith) where
-  one_some : (x y : List ℕ × List ℕ) → Some x ≡ Some y → x ≡ y
-  one_some x y e = cc
+      one_some : (x y : List ℕ × List ℕ) → Some x ≡ Some y → x ≡ y
+      one_some x y e = cc
 cut_first word (b ∷ bs) x (c ∷ cs) back e f =
     elim (or_some (option_map here_then (strip word (b ∷ bs))) (option_map (later_then b) (cut_at word bs)) x e) [
       | inl here ↦
-        let m = map_some here_then (strip word (b ∷ bs)) x here in
-        subst (λ (y : List ℕ × List ℕ). length y.0 ≤ suc (length cs)) m.2 (omega arith)
+          let m = map_some here_then (strip word (b ∷ bs)) x here in
+          subst (λ (y : List ℕ × List ℕ). length y.0 ≤ suc (length cs)) m.2 (omega arith)
       | inr later ↦
-        let m = map_some (later_then b) (cut_at word bs) x later.1 in
-        let t : bs ≡ cs ++ (word ++ back) = cc in
-        let le : length m.0.0 ≤ length cs = cut_first word bs m.0 cs back m.1 t in
-        subst (λ (y : List ℕ × List ℕ). length y.0 ≤ suc (length cs)) m.2 (omega arith)
+          let m = map_some (later_then b) (cut_at word bs) x later.1 in
+          let t : bs ≡ cs ++ (word ++ back) = cc in
+          let le : length m.0.0 ≤ length cs = cut_first word bs m.0 cs back m.1 t in
+          subst (λ (y : List ℕ × List ℕ). length y.0 ≤ suc (length cs)) m.2 (omega arith)
     ]
 
 -- what stands before a word that stands nowhere earlier
@@ -199,14 +199,16 @@ cut_again (p ∷ ps) (b ∷ bs) rest some least =
     let never : strip (p ∷ ps) (b ∷ (bs ++ (p ∷ ps ++ rest))) ≡ None = not_here p ps b bs rest least in
     let more : cut_at (p ∷ ps) (bs ++ (p ∷ ps ++ rest)) ≡ Some (bs, rest) = cut_again (p ∷ ps) bs rest some (λ front back e. shorter b bs front (least (b ∷ front) back (ap (λ (t : List ℕ). b ∷ t) e))) in
     rw (never, more) refl where
-  seen : {A : Type 0} (o : Option A) → (o ≡ None) ⊎ ((x : A) × (o ≡ Some x))
-  seen None = inl refl
-  seen (Some x) = inr (x, refl)
-  not_here : (p : ℕ) (ps : List ℕ) (b : ℕ) (bs rest : List ℕ) → ((front back : List ℕ) → b ∷ (bs ++ (p ∷ ps ++ rest)) ≡ front ++ (p ∷ ps ++ back) → length (b ∷ bs) ≤ length front) → strip (p ∷ ps) (b ∷ (bs ++ (p ∷ ps ++ rest))) ≡ None
-  not_here p ps b bs rest least =
-    elim (seen (strip (p ∷ ps) (b ∷ (bs ++ (p ∷ ps ++ rest))))) [
-      | inl none ↦ none
-      | inr found ↦ absurd (omega (arith, least [] found.0 (strip_took (p ∷ ps) (b ∷ (bs ++ (p ∷ ps ++ rest))) found.0 found.1)))
-    ]
-  shorter : (b : ℕ) (bs front : List ℕ) → length (b ∷ bs) ≤ length (b ∷ front) → length bs ≤ length front
-  shorter b bs front le = omega arith
+      seen : {A : Type 0} (o : Option A) → (o ≡ None) ⊎ ((x : A) × (o ≡ Some x))
+      seen None = inl refl
+      seen (Some x) = inr (x, refl)
+
+      not_here : (p : ℕ) (ps : List ℕ) (b : ℕ) (bs rest : List ℕ) → ((front back : List ℕ) → b ∷ (bs ++ (p ∷ ps ++ rest)) ≡ front ++ (p ∷ ps ++ back) → length (b ∷ bs) ≤ length front) → strip (p ∷ ps) (b ∷ (bs ++ (p ∷ ps ++ rest))) ≡ None
+      not_here p ps b bs rest least =
+          elim (seen (strip (p ∷ ps) (b ∷ (bs ++ (p ∷ ps ++ rest))))) [
+            | inl none ↦ none
+            | inr found ↦ absurd (omega (arith, least [] found.0 (strip_took (p ∷ ps) (b ∷ (bs ++ (p ∷ ps ++ rest))) found.0 found.1)))
+          ]
+
+      shorter : (b : ℕ) (bs front : List ℕ) → length (b ∷ bs) ≤ length (b ∷ front) → length bs ≤ length front
+      shorter b bs front le = omega arith

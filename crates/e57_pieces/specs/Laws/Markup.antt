@@ -50,25 +50,25 @@ tag_took text x e =
     let n = name_took a.0 b.0 b.1 in
     elim (or_some (option_map (λ (rest : List ℕ). (Start b.0.0 c.0.0, rest)) (strip (codes ">") c.0.1)) (option_map (λ (rest : List ℕ). (Empty b.0.0 c.0.0, rest)) (strip (codes "/>") c.0.1)) x c.2) [
       | inl here ↦
-        let m = map_some (λ (rest : List ℕ). (Start b.0.0 c.0.0, rest)) (strip (codes ">") c.0.1) x here in
-        let t = inside_took b.0.1 c.0 (codes ">") m.0 c.1 m.1 in
-        let made : TookPiece text (Start b.0.0 c.0.0, m.0) = record {
-          spelling = codes "<" ++ (b.0.0 ++ t.spelling);
-          spelled = record { inside = t.spelling; is_name = n.0; is_inside = t.holds; spelled = refl };
-          ends = tt;
-          parts = tagged text b.0.0 t.spelling a.0 b.0.1 m.0 (strip_took (codes "<") text a.0 a.1) n.1 t.parts;
-        } in
-        subst (λ (y : Piece × List ℕ). TookPiece text y) m.2 made
+          let m = map_some (λ (rest : List ℕ). (Start b.0.0 c.0.0, rest)) (strip (codes ">") c.0.1) x here in
+          let t = inside_took b.0.1 c.0 (codes ">") m.0 c.1 m.1 in
+          let made : TookPiece text (Start b.0.0 c.0.0, m.0) = record {
+            spelling = codes "<" ++ (b.0.0 ++ t.spelling);
+            spelled = record { inside = t.spelling; is_name = n.0; is_inside = t.holds; spelled = refl };
+            ends = tt;
+            parts = tagged text b.0.0 t.spelling a.0 b.0.1 m.0 (strip_took (codes "<") text a.0 a.1) n.1 t.parts;
+          } in
+          subst (λ (y : Piece × List ℕ). TookPiece text y) m.2 made
       | inr later ↦
-        let m = map_some (λ (rest : List ℕ). (Empty b.0.0 c.0.0, rest)) (strip (codes "/>") c.0.1) x later.1 in
-        let t = inside_took b.0.1 c.0 (codes "/>") m.0 c.1 m.1 in
-        let made : TookPiece text (Empty b.0.0 c.0.0, m.0) = record {
-          spelling = codes "<" ++ (b.0.0 ++ t.spelling);
-          spelled = record { inside = t.spelling; is_name = n.0; is_inside = t.holds; spelled = refl };
-          ends = tt;
-          parts = tagged text b.0.0 t.spelling a.0 b.0.1 m.0 (strip_took (codes "<") text a.0 a.1) n.1 t.parts;
-        } in
-        subst (λ (y : Piece × List ℕ). TookPiece text y) m.2 made
+          let m = map_some (λ (rest : List ℕ). (Empty b.0.0 c.0.0, rest)) (strip (codes "/>") c.0.1) x later.1 in
+          let t = inside_took b.0.1 c.0 (codes "/>") m.0 c.1 m.1 in
+          let made : TookPiece text (Empty b.0.0 c.0.0, m.0) = record {
+            spelling = codes "<" ++ (b.0.0 ++ t.spelling);
+            spelled = record { inside = t.spelling; is_name = n.0; is_inside = t.holds; spelled = refl };
+            ends = tt;
+            parts = tagged text b.0.0 t.spelling a.0 b.0.1 m.0 (strip_took (codes "<") text a.0 a.1) n.1 t.parts;
+          } in
+          subst (λ (y : Piece × List ℕ). TookPiece text y) m.2 made
     ]
 
 ended : (text name space start left left_on rest : List ℕ) → text ≡ codes "</" ++ start → start ≡ name ++ left → left ≡ space ++ left_on → left_on ≡ codes ">" ++ rest → text ≡ (codes "</" ++ (name ++ (space ++ codes ">"))) ++ rest
@@ -221,7 +221,7 @@ tag_again s name attrs close rest is goes_on white begins =
     let stops : Stops goes_on_name (is.inside ++ rest) = subst (λ (t : List ℕ). Stops goes_on_name (t ++ rest)) (sym inner.spelled) (inside_stops attrs inner.front inner.space close rest inner.attributes inner.white goes_on) in
     let whole : s ++ rest ≡ codes "<" ++ (name ++ (is.inside ++ rest)) = ap (λ (t : List ℕ). t ++ rest) is.spelled ∙ ap (λ (t : List ℕ). 60 ∷ t) (append_assoc name is.inside rest) in
     ap tag_at whole ∙ tag_steps (codes "<" ++ (name ++ (is.inside ++ rest))) (name ++ (is.inside ++ rest)) name (is.inside ++ rest) (close ++ rest) attrs
-      (strip_again (codes "<") (name ++ (is.inside ++ rest))) (name_again name (is.inside ++ rest) is.is_name stops) (inside_again is.inside attrs close rest inner white begins)
+    (strip_again (codes "<") (name ++ (is.inside ++ rest))) (name_again name (is.inside ++ rest) is.is_name stops) (inside_again is.inside attrs close rest inner white begins)
 
 start_again : (s name : List ℕ) (attrs : List Attr) (rest : List ℕ) → IsTag s name attrs (codes ">") → tag_at (s ++ rest) ≡ Some (Start name attrs, rest)
 unfolding goes_on_name begins_name is_space strip
@@ -250,8 +250,8 @@ end_again : (s name rest : List ℕ) → IsEndTag s name → end_at (s ++ rest) 
 end_again s name rest is =
     ap end_at (end_whole s name is.space rest is.spelled)
     ∙ end_steps (codes "</" ++ (name ++ (is.space ++ (62 ∷ rest)))) (name ++ (is.space ++ (62 ∷ rest))) name (is.space ++ (62 ∷ rest)) rest (strip_again (codes "</") (name ++ (is.space ++ (62 ∷ rest))))
-      (name_again name (is.space ++ (62 ∷ rest)) is.is_name (space_stops_name is.space (62 ∷ rest) is.white angle_no_name))
-      (ap (strip (codes ">")) (run_again is_space is.space (62 ∷ rest) is.white angle_no_space).1 ∙ strip_again (codes ">") rest)
+    (name_again name (is.space ++ (62 ∷ rest)) is.is_name (space_stops_name is.space (62 ∷ rest) is.white angle_no_name))
+    (ap (strip (codes ">")) (run_again is_space is.space (62 ∷ rest) is.white angle_no_space).1 ∙ strip_again (codes ">") rest)
 
 -- a front that is longer than another one begins with it
 pub longer : (xs ys us vs : List ℕ) → xs ++ ys ≡ us ++ vs → length us ≤ length xs → (m : List ℕ) × (xs ≡ us ++ m) × (vs ≡ m ++ ys)
@@ -261,8 +261,8 @@ longer (x ∷ xs) ys (u ∷ us) vs e le =
     let tails : xs ++ ys ≡ us ++ vs = cc in
     let more = longer xs ys us vs tails (omega arith) in
     (more.0, same_heads x u xs us more.0 e more.1, more.2) where
-  same_heads : (x u : ℕ) (xs us m : List ℕ) {zs ws : List ℕ} → x ∷ zs ≡ u ∷ ws → xs ≡ us ++ m → x ∷ xs ≡ u ∷ (us ++ m)
-  same_heads x u xs us m e f = cc
+      same_heads : (x u : ℕ) (xs us m : List ℕ) {zs ws : List ℕ} → x ∷ zs ≡ u ∷ ws → xs ≡ us ++ m → x ∷ xs ≡ u ∷ (us ++ m)
+      same_heads x u xs us m e f = cc
 
 dash_cases : (m back rest : List ℕ) → 45 ∷ 45 ∷ back ≡ m ++ (45 ∷ 45 ∷ rest) → 0 < length m → (m ≡ codes "-") ⊎ ((more : List ℕ) × (m ≡ codes "--" ++ more))
 dash_cases [] back rest e some = absurd (omega arith)
@@ -277,12 +277,12 @@ comment_least body rest front back absent last e =
     elim (cases_lt (length front) (length body)) [
       | inr le ↦ le
       | inl lt ↦
-        let m = longer body (codes "--" ++ rest) front (codes "--" ++ back) e (omega arith) in
-        let some : 0 < length m.0 = omega (arith, ap (λ (t : List ℕ). length t) m.1, length-append front m.0) in
-        elim (dash_cases m.0 back rest m.2 some) [
-          | inl one ↦ absurd (last front (m.1 ∙ ap (λ (t : List ℕ). front ++ t) one))
-          | inr two ↦ absurd (absent front two.0 (m.1 ∙ ap (λ (t : List ℕ). front ++ t) two.1))
-        ]
+          let m = longer body (codes "--" ++ rest) front (codes "--" ++ back) e (omega arith) in
+          let some : 0 < length m.0 = omega (arith, ap (λ (t : List ℕ). length t) m.1, length-append front m.0) in
+          elim (dash_cases m.0 back rest m.2 some) [
+            | inl one ↦ absurd (last front (m.1 ∙ ap (λ (t : List ℕ). front ++ t) one))
+            | inr two ↦ absurd (absent front two.0 (m.1 ∙ ap (λ (t : List ℕ). front ++ t) two.1))
+          ]
     ]
 
 close_cases : (m back rest : List ℕ) → 93 ∷ 93 ∷ 62 ∷ back ≡ m ++ (93 ∷ 93 ∷ 62 ∷ rest) → 0 < length m → (more : List ℕ) × (m ≡ codes "]]>" ++ more)
@@ -300,10 +300,10 @@ cdata_least body rest front back absent e =
     elim (cases_lt (length front) (length body)) [
       | inr le ↦ le
       | inl lt ↦
-        let m = longer body (codes "]]>" ++ rest) front (codes "]]>" ++ back) e (omega arith) in
-        let some : 0 < length m.0 = omega (arith, ap (λ (t : List ℕ). length t) m.1, length-append front m.0) in
-        let three = close_cases m.0 back rest m.2 some in
-        absurd (absent front three.0 (m.1 ∙ ap (λ (t : List ℕ). front ++ t) three.1))
+          let m = longer body (codes "]]>" ++ rest) front (codes "]]>" ++ back) e (omega arith) in
+          let some : 0 < length m.0 = omega (arith, ap (λ (t : List ℕ). length t) m.1, length-append front m.0) in
+          let three = close_cases m.0 back rest m.2 some in
+          absurd (absent front three.0 (m.1 ∙ ap (λ (t : List ℕ). front ++ t) three.1))
     ]
 
 comment_steps : (text start body left rest : List ℕ) → strip (codes "<!--") text ≡ Some start → cut_at (codes "--") start ≡ Some (body, left) → strip (codes ">") left ≡ Some rest → comment_at text ≡ Some (Comment, rest)
@@ -317,7 +317,7 @@ comment_again : (s rest : List ℕ) → IsComment s → comment_at (s ++ rest) �
 comment_again s rest is =
     ap comment_at (comment_whole s is.body rest is.spelled)
     ∙ comment_steps (codes "<!--" ++ (is.body ++ (codes "--" ++ (62 ∷ rest)))) (is.body ++ (codes "--" ++ (62 ∷ rest))) is.body (62 ∷ rest) rest (strip_again (codes "<!--") (is.body ++ (codes "--" ++ (62 ∷ rest))))
-      (cut_again (codes "--") is.body (62 ∷ rest) (omega arith) (λ front back e. comment_least is.body (62 ∷ rest) front back is.no_dashes is.no_dash_last e)) (strip_again (codes ">") rest)
+    (cut_again (codes "--") is.body (62 ∷ rest) (omega arith) (λ front back e. comment_least is.body (62 ∷ rest) front back is.no_dashes is.no_dash_last e)) (strip_again (codes ">") rest)
 
 cdata_steps : (text start body rest : List ℕ) → strip (codes "<![CDATA[") text ≡ Some start → cut_at (codes "]]>") start ≡ Some (body, rest) → cdata_at text ≡ Some (CData body, rest)
 unfolding cdata_at
@@ -330,7 +330,7 @@ cdata_again : (s text rest : List ℕ) → IsCData s text → cdata_at (s ++ res
 cdata_again s text rest is =
     ap cdata_at (cdata_spread s text rest is.spelled)
     ∙ cdata_steps (codes "<![CDATA[" ++ (text ++ (codes "]]>" ++ rest))) (text ++ (codes "]]>" ++ rest)) text rest (strip_again (codes "<![CDATA[") (text ++ (codes "]]>" ++ rest)))
-      (cut_again (codes "]]>") text rest (omega arith) (λ front back e. cdata_least text rest front back is.no_close e))
+    (cut_again (codes "]]>") text rest (omega arith) (λ front back e. cdata_least text rest front back is.no_close e))
 
 -- ---- text runs
 
@@ -369,9 +369,9 @@ run_none text e =
     elim (cases_lt (length (text_at 60 text).1) (length text)) [
       | inl lt ↦ absurd (some_none (run_at text) (Text (text_at 60 text).0, (text_at 60 text).1) (run_step text (text_at 60 text).1 (text_at 60 text).0 refl (omega arith)) e)
       | inr le ↦
-        let short : length t.spelling ≡ 0 = omega (arith, le, ap (λ (u : List ℕ). length u) t.parts, length-append t.spelling (text_at 60 text).1) in
-        let whole : text ≡ (text_at 60 text).1 = t.parts ∙ ap (λ (u : List ℕ). u ++ (text_at 60 text).1) (nil_from_length t.spelling short) in
-        subst (λ (u : List ℕ). NoPart (is_plain 60) u) (sym whole) (text_ends 60 text)
+          let short : length t.spelling ≡ 0 = omega (arith, le, ap (λ (u : List ℕ). length u) t.parts, length-append t.spelling (text_at 60 text).1) in
+          let whole : text ≡ (text_at 60 text).1 = t.parts ∙ ap (λ (u : List ℕ). u ++ (text_at 60 text).1) (nil_from_length t.spelling short) in
+          subst (λ (u : List ℕ). NoPart (is_plain 60) u) (sym whole) (text_ends 60 text)
     ]
 
 -- a run begins with a part
@@ -380,10 +380,10 @@ first_part [] rest each some ends = omega arith
 first_part (p ∷ ps) rest each some ends = at_part p.0 p.1 (flat_map (λ (part : List ℕ × List ℕ). part.0) ps) rest each.0 ends where
   at_part : (s m more rest : List ℕ) → IsPart (is_plain 60) s m → NoPart (is_plain 60) ((s ++ more) ++ rest) → ⊥
   at_part s m more rest (inl is) ends =
-    let here : NoPart (is_plain 60) (is.0 ∷ (more ++ rest)) = subst (λ (t : List ℕ). NoPart (is_plain 60) ((t ++ more) ++ rest)) is.2 ends in
-    not_both (is_plain 60 is.0) is.1 here.stops
+      let here : NoPart (is_plain 60) (is.0 ∷ (more ++ rest)) = subst (λ (t : List ℕ). NoPart (is_plain 60) ((t ++ more) ++ rest)) is.2 ends in
+      not_both (is_plain 60 is.0) is.1 here.stops
   at_part s m more rest (inr is) ends =
-    some_none (reference_at ((s ++ more) ++ rest)) (is.0, more ++ rest) (ap reference_at (append_assoc s more rest) ∙ reference_again s is.0 (more ++ rest) is.1) ends.none
+      some_none (reference_at ((s ++ more) ++ rest)) (is.0, more ++ rest) (ap reference_at (append_assoc s more rest) ∙ reference_again s is.0 (more ++ rest) is.1) ends.none
 
 pub run_begins : (s text rest : List ℕ) → IsRun s text → NoPart (is_plain 60) (s ++ rest) → ⊥
 run_begins s text rest is ends =
@@ -394,8 +394,9 @@ first_byte s text is = at_first is.means.parts s is.means.each (omega (arith, is
   at_part : (front m more s : List ℕ) → IsPart (is_plain 60) front m → s ≡ front ++ more → (b : ℕ) × (rest : List ℕ) × (b ≢ 60) × (s ≡ b ∷ rest)
   at_part front m more s (inl is) e = (is.0, more, plain_no_angle is.0 is.1, e ∙ ap (λ (t : List ℕ). t ++ more) is.2)
   at_part front m more s (inr is) e =
-    let begins = reference_begins front is.0 is.1 in
-    (38, begins.0 ++ more, (λ is. absurd (omega arith)), e ∙ ap (λ (t : List ℕ). t ++ more) begins.1)
+      let begins = reference_begins front is.0 is.1 in
+      (38, begins.0 ++ more, (λ is. absurd (omega arith)), e ∙ ap (λ (t : List ℕ). t ++ more) begins.1)
+
   at_first : (parts : List (List ℕ × List ℕ)) (s : List ℕ) → AllByRecursion (λ part. IsPart (is_plain 60) part.0 part.1) parts → 0 < length s → s ≡ flat_map (λ (part : List ℕ × List ℕ). part.0) parts → (b : ℕ) × (more : List ℕ) × (b ≢ 60) × (s ≡ b ∷ more)
   at_first [] s each some e = absurd (omega (arith, ap (λ (t : List ℕ). length t) e))
   at_first (p ∷ ps) s each some e = at_part p.0 p.1 (flat_map (λ (part : List ℕ × List ℕ). part.0) ps) s each.0 e

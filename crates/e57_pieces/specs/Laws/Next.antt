@@ -117,7 +117,7 @@ whole_from (Text text) rest back clean_rest ends = no_run_after rest back clean_
 pub record ReadsNext (front back : List ℕ) (x : Piece × List ℕ) : Type 0 where
   pub is_next : IsNext (front ++ back) x.0 (x.1 ++ back)
   pub clean_rest : IsClean x.1 back
-  pub shorter : length x.1 < length front
+  pub front_parts : front ≡ is_next.spelling ++ x.1
 
 some_spelled : (s : List ℕ) → EndsAngle s → 0 < length s
 some_spelled s ends = omega (arith, ap (λ (t : List ℕ). length t) ends.1, length-append ends.0 (62 ∷ []))
@@ -143,7 +143,7 @@ next_read front back x clean_front e =
         parts = ap (λ (u : List ℕ). u ++ back) t.parts ∙ append_assoc t.spelling x.1 back;
       };
       clean_rest = clean_rest;
-      shorter = omega (arith, piece_long t.spelling x.0 t.spelled, ap (λ (u : List ℕ). length u) t.parts, length-append t.spelling x.1);
+      front_parts = t.parts;
     }
 
 seen : {A : Type 0} (o : Option A) → (o ≡ None) ⊎ ((x : A) × (o ≡ Some x))
@@ -155,9 +155,9 @@ run_ends_from rest back are never =
     elim (seen (run_at rest)) [
       | inl none ↦ run_none rest none
       | inr found ↦
-        let r = run_found rest found.0 found.1 in
-        let two = parts_at_end r.spelling found.0.1 r.ends (subst (λ (u : List ℕ). AreCharacters u) r.parts are) in
-        absurd (never r.spelling (found.0.1 ++ back) r.meaning (ap (λ (u : List ℕ). u ++ back) r.parts ∙ append_assoc r.spelling found.0.1 back) (record { characters = two.0; spelled = r.is_run }))
+          let r = run_found rest found.0 found.1 in
+          let two = parts_at_end r.spelling found.0.1 r.ends (subst (λ (u : List ℕ). AreCharacters u) r.parts are) in
+          absurd (never r.spelling (found.0.1 ++ back) r.meaning (ap (λ (u : List ℕ). u ++ back) r.parts ∙ append_assoc r.spelling found.0.1 back) (record { characters = two.0; spelled = r.is_run }))
     ]
 
 ends_from : (piece : Piece) (rest back : List ℕ) → AreCharacters rest → IsWhole piece (rest ++ back) → RunEnds piece rest
@@ -225,3 +225,10 @@ IsUtf8-next text piece rest utf8 is = IsUtf8-after is.spelling rest (subst (λ (
 
 pub next_shorter : (text : List ℕ) (piece : Piece) (rest : List ℕ) → IsNext text piece rest → length rest < length text
 next_shorter text piece rest is = omega (arith, piece_long is.spelling piece is.is_piece.spelled, ap (λ (u : List ℕ). length u) is.parts, length-append is.spelling rest)
+
+pub none_next : (text : List ℕ) → IsUtf8 text → NoPiece text → next_at text ≡ None
+none_next text utf8 never =
+    elim (seen (next_at text)) [
+      | inl none ↦ none
+      | inr found ↦ absurd (next_some text found.0.0 found.0.1 (is_next text found.0.0 found.0.1 utf8 found.1) never)
+    ]

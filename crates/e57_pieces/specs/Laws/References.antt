@@ -60,11 +60,11 @@ reference_took text x e =
               | inl here ↦ took_named (codes "&quot;") 34 text x (λ d is. inr (inr (inr (inr (refl, is))))) here
               | inr e5 ↦ elim (or_some (numbered_at (codes "&#") is_decimal 10 text) (numbered_at (codes "&#x") is_hexadecimal 16 text) x e5.1) [
                 | inl here ↦
-                  let t = numbered_took (codes "&#") is_decimal 10 text x here in
-                  record { spelling = t.spelling; holds = inr (inl t.holds); parts = t.parts }
+                    let t = numbered_took (codes "&#") is_decimal 10 text x here in
+                    record { spelling = t.spelling; holds = inr (inl t.holds); parts = t.parts }
                 | inr last ↦
-                  let t = numbered_took (codes "&#x") is_hexadecimal 16 text x last.1 in
-                  record { spelling = t.spelling; holds = inr (inr t.holds); parts = t.parts }
+                    let t = numbered_took (codes "&#x") is_hexadecimal 16 text x last.1 in
+                    record { spelling = t.spelling; holds = inr (inr t.holds); parts = t.parts }
               ]
             ]
           ]
@@ -107,7 +107,7 @@ numbered_again mark is_digit base c s rest is ends =
     let again = run_again is_digit is.digits (59 ∷ rest) is.each ends in
     let close : strip (codes ";") (59 ∷ rest) ≡ Some rest = strip_again (codes ";") rest in
     let fits : (leb 1 (length is.digits) && leb (length is.digits) 10 && is_character (number base is.digits)) ≡ true =
-      both_true _ _ (both_true _ _ (le-leb 1 (length is.digits) (omega (arith, is.some))) (le-leb (length is.digits) 10 is.few)) (subst (λ (n : ℕ). is_character n ≡ true) is.value is.character) in
+    both_true _ _ (both_true _ _ (le-leb 1 (length is.digits) (omega (arith, is.some))) (le-leb (length is.digits) 10 is.few)) (subst (λ (n : ℕ). is_character n ≡ true) is.value is.character) in
     rw (strip_again mark (is.digits ++ (59 ∷ rest)), again.1, close, again.0, fits, is.value) refl
 
 spelled_out : (mark digits s rest : List ℕ) → s ≡ mark ++ digits ++ codes ";" → s ++ rest ≡ mark ++ (digits ++ (59 ∷ rest))
@@ -204,7 +204,7 @@ then_took plain goes_on (Some x) bytes front rest e each found more =
     record {
       spelling = front ++ (t.spelling ++ later.spelling);
       holds = Means-append plain front front (t.spelling ++ later.spelling) (encode_utf8 x.0 ++ (goes_on x.1).0) (plain_means plain front each)
-        (Means-append plain t.spelling (encode_utf8 x.0) later.spelling (goes_on x.1).0 (Means-part plain t.spelling (encode_utf8 x.0) (inr (x.0, t.holds, refl))) later.holds);
+          (Means-append plain t.spelling (encode_utf8 x.0) later.spelling (goes_on x.1).0 (Means-part plain t.spelling (encode_utf8 x.0) (inr (x.0, t.holds, refl))) later.holds);
       parts = e ∙ ap (λ (u : List ℕ). front ++ u) (t.parts ∙ ap (λ (u : List ℕ). t.spelling ++ u) later.parts) ∙ sym (append_assoc front (t.spelling ++ later.spelling) (goes_on x.1).1 ∙ ap (λ (u : List ℕ). front ++ u) (append_assoc t.spelling later.spelling (goes_on x.1).1));
     }
 
@@ -276,7 +276,7 @@ parts_listed : (plain : ℕ → Bool) (parts : List (List ℕ × List ℕ)) (res
 parts_listed plain [] rest n apart each ends le = parts_none plain n rest ends
 parts_listed plain (p ∷ ps) rest n apart each ends le =
     part_more plain p.0 p.1 (flat_map (λ (part : List ℕ × List ℕ). part.0) ps) (flat_map (λ (part : List ℕ × List ℕ). part.1) ps) rest n apart each.0
-      (omega (arith, length-append p.0 (flat_map (λ (part : List ℕ × List ℕ). part.0) ps))) (λ k short. parts_listed plain ps rest k apart each.1 ends short)
+    (omega (arith, length-append p.0 (flat_map (λ (part : List ℕ × List ℕ). part.0) ps))) (λ k short. parts_listed plain ps rest k apart each.1 ends short)
 
 ampersand : (quote : ℕ) → is_plain quote 38 ≡ false
 unfolding is_plain

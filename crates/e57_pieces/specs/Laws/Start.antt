@@ -62,7 +62,7 @@ declaration_again : (s rest : List ℕ) → IsDeclaration s → declaration_at (
 declaration_again s rest is =
     let whole : s ++ rest ≡ codes "<?xml" ++ (is.inside ++ rest) = ap (λ (t : List ℕ). t ++ rest) is.spelled ∙ append_assoc (codes "<?xml") is.inside rest in
     ap declaration_at whole ∙ declaration_steps (codes "<?xml" ++ (is.inside ++ rest)) (is.inside ++ rest) (codes "?>" ++ rest) rest is.attrs (strip_again (codes "<?xml") (is.inside ++ rest))
-      (inside_again is.inside is.attrs (codes "?>") rest is.is_inside question_no_space question_no_name) (strip_again (codes "?>") rest) is.encoding
+    (inside_again is.inside is.attrs (codes "?>") rest is.is_inside question_no_space question_no_name) (strip_again (codes "?>") rest) is.encoding
 
 -- what is read at the front of the clean front is a declaration
 pub record ReadsDeclaration (front back rest : List ℕ) : Type 0 where
@@ -117,8 +117,8 @@ IsUtf8-after_mark text utf8 =
     elim (seen (strip mark text)) [
       | inl none ↦ subst (λ (u : List ℕ). IsUtf8 u) (sym (no_mark text none)) utf8
       | inr some ↦
-        let rest : IsUtf8 some.0 = IsUtf8-after mark some.0 (subst (λ (u : List ℕ). IsUtf8 u) (strip_took mark text some.0 some.1) utf8) mark_characters in
-        subst (λ (u : List ℕ). IsUtf8 u) (sym (mark_taken text some.0 some.1)) rest
+          let rest : IsUtf8 some.0 = IsUtf8-after mark some.0 (subst (λ (u : List ℕ). IsUtf8 u) (strip_took mark text some.0 some.1) utf8) mark_characters in
+          subst (λ (u : List ℕ). IsUtf8 u) (sym (mark_taken text some.0 some.1)) rest
     ]
 
 -- ---- of a text in UTF-8
@@ -146,9 +146,9 @@ begins_is text body utf8 e =
     elim (tested (declares (after_mark text))) [
       | inr plain ↦ inl (plain, one_some body (after_mark text) (sym e ∙ body_plain text plain))
       | inl there ↦
-        let m = map_some (λ (rest : List ℕ). rest ++ unclean (after_mark text)) (declaration_at (clean (after_mark text))) body (sym (body_declared text there) ∙ e) in
-        let read = declaration_read (clean (after_mark text)) (unclean (after_mark text)) m.0 (IsClean-clean_len (after_mark text) (IsUtf8-after_mark text utf8)) m.1 in
-        inr (there, read.spelling, read.is_declaration, sym (clean_whole (after_mark text)) ∙ read.parts ∙ ap (λ (u : List ℕ). read.spelling ++ u) m.2)
+          let m = map_some (λ (rest : List ℕ). rest ++ unclean (after_mark text)) (declaration_at (clean (after_mark text))) body (sym (body_declared text there) ∙ e) in
+          let read = declaration_read (clean (after_mark text)) (unclean (after_mark text)) m.0 (IsClean-clean_len (after_mark text) (IsUtf8-after_mark text utf8)) m.1 in
+          inr (there, read.spelling, read.is_declaration, sym (clean_whole (after_mark text)) ∙ read.parts ∙ ap (λ (u : List ℕ). read.spelling ++ u) m.2)
     ]
 
 pub body_is : (text body : List ℕ) → IsUtf8 text → Begins text body → body_at text ≡ Some body
@@ -172,3 +172,10 @@ begins_somewhere text body (inr is) none = none.no_declaration is.1 body is.3 is
 pub IsUtf8-body : (text body : List ℕ) → IsUtf8 text → Begins text body → IsUtf8 body
 IsUtf8-body text body utf8 (inl is) = subst (λ (u : List ℕ). IsUtf8 u) (sym is.1) (IsUtf8-after_mark text utf8)
 IsUtf8-body text body utf8 (inr is) = IsUtf8-after is.1 body (subst (λ (u : List ℕ). IsUtf8 u) is.3 (IsUtf8-after_mark text utf8)) is.2.characters
+
+pub after_mark_le : (text : List ℕ) → length (after_mark text) ≤ length text
+after_mark_le text =
+    elim (seen (strip mark text)) [
+      | inl none ↦ omega (arith, ap (λ (u : List ℕ). length u) (no_mark text none))
+      | inr some ↦ omega (arith, ap (λ (u : List ℕ). length u) (mark_taken text some.0 some.1), ap (λ (u : List ℕ). length u) (strip_took mark text some.0 some.1))
+    ]
