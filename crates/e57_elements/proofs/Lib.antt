@@ -6,3 +6,7 @@ mod Builds
 mod Writing
 mod Elements
 mod Spelled
+mod Steps
+mod Counts
+mod Characters
+mod Lawful
