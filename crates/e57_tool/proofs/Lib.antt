@@ -1,3 +1,4 @@
-pub mod Complete
 pub mod Opening
 pub mod Scanning
+pub mod Showing
+pub mod Complete

@@ -1,5 +1,5 @@
 -- `pages FILE`
-use Rattle.std.specs.Prelude.{ℕ, ◌/◌, List, length, Option, Some, None}
+use Rattle.std.specs.Prelude.{◌≡◌, ℕ, ◌/◌, List, length, Option, Some, None}
 use Rattle.std.specs.Option.{option_or}
 use Rattle.e57_base.specs.Source.{SourceView}
 use Rattle.e57_base.specs.Sink.{SinkView}
@@ -16,15 +16,21 @@ use Rattle.e57_tool.specs.Run.{Completes, FindsFault, LosesSource, LosesOut}
 abbrev pub pages_verdict : List ℕ → Option Fault
 pages_verdict file = option_or (length_fault (length file)) (option_or (header_fault file (length file)) (pages_fault file 0 (length file / 1024)))
 
+abbrev pub IsPagesFault : List ℕ → Fault → Type 0
+IsPagesFault file found = pages_verdict file ≡ Some found
+
+abbrev pub HasSoundPages : List ℕ → Type 0
+HasSoundPages file = pages_verdict file ≡ None
+
 -- the line for a file without such a fault
-abbrev pub pages_output : List ℕ → List ℕ
-pages_output file = pages_line (length file / 1024) (xml_offset file) (xml_length file)
+abbrev pub IsPagesOutput : List ℕ → List ℕ → Type 0
+IsPagesOutput file text = text ≡ pages_line (length file / 1024) (xml_offset file) (xml_length file)
 
 -- how the command ends, without a fault or with one
 abbrev pub PagesEnds : List ℕ → SourceView → SourceView → SinkView → SinkView → Option RunFault → Type 0
-PagesEnds name old new out out' None = Completes pages_verdict pages_output name old new out out'
-PagesEnds name old new out out' (Some (Refused found)) = FindsFault pages_verdict is_opening_kind name old new out out' found
+PagesEnds name old new out out' None = Completes HasSoundPages IsPagesOutput name old new out out'
+PagesEnds name old new out out' (Some (Refused found)) = FindsFault IsPagesFault is_opening_kind name old new out out' found
 PagesEnds name old new out out' (Some Source) = LosesSource name old new out out'
-PagesEnds name old new out out' (Some Out) = LosesOut pages_verdict pages_output name old new out out'
+PagesEnds name old new out out' (Some Out) = LosesOut HasSoundPages IsPagesOutput name old new out out'
 -- it takes no memory
 PagesEnds name old new out out' (Some Memory) = ⊥

@@ -24,18 +24,18 @@ pub record IsOpen (old : SourceView) (name : List ℕ) (new : SourceView) : Type
   pub size : IsSome new.size
   pub held : IfSome old.stock (λ files. new.held ≡ get files name)
 
--- The file has no fault, and its whole output was put.
-pub record Completes (verdict : List ℕ → Option Fault) (output : List ℕ → List ℕ) (name : List ℕ) (old new : SourceView) (out out' : SinkView) : Type 0 where
+-- The file has no fault that the command names, and its whole output was put.
+pub record Completes (is_sound : List ℕ → Type 0) (is_output : List ℕ → List ℕ → Type 0) (name : List ℕ) (old new : SourceView) (out out' : SinkView) : Type 0 where
   pub opens : OpensOnce old name new
   pub file : IsOpen old name new
-  pub sound : IfSome new.held (λ file. verdict file ≡ None)
-  pub wrote : (text : List ℕ) × IfSome new.held (λ file. text ≡ output file) × Grows out.written text out'.written
+  pub sound : IfSome new.held is_sound
+  pub wrote : (text : List ℕ) × IfSome new.held (λ file. is_output file text) × Grows out.written text out'.written
 
 -- The file has this fault, of a kind that the command names. Nothing was put.
-pub record FindsFault (verdict : List ℕ → Option Fault) (is_named : Kind → Bool) (name : List ℕ) (old new : SourceView) (out out' : SinkView) (found : Fault) : Type 0 where
+pub record FindsFault (is_faulty : List ℕ → Fault → Type 0) (is_named : Kind → Bool) (name : List ℕ) (old new : SourceView) (out out' : SinkView) (found : Fault) : Type 0 where
   pub opens : OpensOnce old name new
   pub file : IsOpen old name new
-  pub first : IfSome new.held (λ file. verdict file ≡ Some found)
+  pub first : IfSome new.held (λ file. is_faulty file found)
   pub kind : is_named found.kind ≡ true
   pub nothing : out' ≡ out
 
@@ -46,12 +46,12 @@ pub record LosesSource (name : List ℕ) (old new : SourceView) (out out' : Sink
   pub nothing : out' ≡ out
 
 -- The file has no fault, and the sink failed. A front of the output was put.
-pub record LosesOut (verdict : List ℕ → Option Fault) (output : List ℕ → List ℕ) (name : List ℕ) (old new : SourceView) (out out' : SinkView) : Type 0 where
+pub record LosesOut (is_sound : List ℕ → Type 0) (is_output : List ℕ → List ℕ → Type 0) (name : List ℕ) (old new : SourceView) (out out' : SinkView) : Type 0 where
   pub opens : OpensOnce old name new
   pub file : IsOpen old name new
-  pub sound : IfSome new.held (λ file. verdict file ≡ None)
+  pub sound : IfSome new.held is_sound
   pub cause : Rose out.faults out'.faults
-  pub wrote : (text : List ℕ) × IfSome new.held (λ file. text ≡ output file) × GrowsByFront out.written text out'.written
+  pub wrote : (text : List ℕ) × IfSome new.held (λ file. is_output file text) × GrowsByFront out.written text out'.written
 
 -- The line was put, or a front of it where the sink failed.
 abbrev pub PutsLine : SinkView → List ℕ → SinkView → Type 0
@@ -85,8 +85,8 @@ pub record RefusesWords {S O : Type 0} (at : ℕ) (source source' : S) (out out'
 abbrev pub stocked : SourceView → List ℕ → Option (List ℕ)
 stocked source name = option_and_then (λ files. get files name) source.stock
 
--- Where the source has the file and it has no fault, the run is done, unless the source or the sink failed.
-abbrev pub IsDoneUnlessFailed : (List ℕ → Option Fault) → List ℕ → SourceView → SourceView → SinkView → SinkView → Status → Type 0
-IsDoneUnlessFailed verdict name old new out out' given =
-    (file : List ℕ) → stocked old name ≡ Some file → verdict file ≡ None → ¬ Rose old.faults new.faults → ¬ Rose out.faults out'.faults
-    → given ≡ status.Done
+-- Where the source has the file and it has no fault, the run is as good as done, unless the source or the sink failed.
+abbrev pub IsDoneUnlessFailed : (List ℕ → Type 0) → (Status → Type 0) → List ℕ → SourceView → SourceView → SinkView → SinkView → Status → Type 0
+IsDoneUnlessFailed is_sound is_done name old new out out' given =
+    (file : List ℕ) → stocked old name ≡ Some file → is_sound file → ¬ Rose old.faults new.faults → ¬ Rose out.faults out'.faults
+    → is_done given

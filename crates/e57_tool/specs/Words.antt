@@ -3,12 +3,14 @@ use Rattle.std.specs.Prelude.{ℕ, Bool, not, if◌then◌else◌, List, [], ◌
 use Rattle.std.specs.List.{starts_with}
 use Rattle.std.specs.Str.{bytes_eq}
 use Rattle.e57_tool.specs.declared.words.Ask.{Ask}
-use Rattle.e57_tool.specs.declared.words.Ask.TheVariants.{Pages}
+use Rattle.e57_tool.specs.declared.words.Ask.TheVariants.{Pages, Info}
 
 -- a command with its places
 pub data Command : Type 0 where
   -- `pages FILE`
   PagesOf : (file : List ℕ) → Command
+  -- `info FILE`
+  InfoOf : (file : List ℕ) → Command
 
 -- a word that may stand in a place
 abbrev pub is_place : List ℕ → Bool
@@ -29,8 +31,12 @@ with_place command (Err at) = Err at
 -- what the words ask for, or the number of the first word at fault
 unfoldable pub ask_of : List (List ℕ) → Result Command ℕ
 ask_of [] = Err 0
-ask_of (command ∷ words) = if bytes_eq command (codes "pages") then with_place PagesOf (place_of words) else Err 0
+ask_of (command ∷ words) =
+    if bytes_eq command (codes "pages") then with_place PagesOf (place_of words)
+    else if bytes_eq command (codes "info") then with_place InfoOf (place_of words)
+    else Err 0
 
 -- an ask as a command
 abbrev pub command_of : Ask → Command
 command_of (Pages file) = PagesOf file.now
+command_of (Info file) = InfoOf file.now

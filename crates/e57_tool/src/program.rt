@@ -4,12 +4,12 @@ ghost use Rattle.std.specs.Prelude.{◌≡◌, map, string_bytes, MatchResult, S
 ghost use Rattle.e57_tool.specs.Words.{ask_of};
 ghost use Rattle.e57_tool.specs.Lines.{words_line};
 ghost use Rattle.e57_tool.specs.Run.{Reports, PutsLine, EndsAs, RefusesWords, IsDoneUnlessFailed};
-ghost use Rattle.e57_tool.specs.Commands.{CommandEnds, file_of, verdict_of};
+ghost use Rattle.e57_tool.specs.Commands.{CommandEnds, IsDoneFor, IsSoundFor, file_of};
 
-use crate::commands::pages;
+use crate::commands::perform;
 use crate::lines::{refused_line, words_line};
 use crate::status::Status;
-use crate::words::{Ask, read_words};
+use crate::words::read_words;
 use e57_base::{RunFault, Sink, Source, Target};
 use std::alloc::Global;
 
@@ -57,13 +57,12 @@ pub fn run<S: Source, T: Target, O: Sink, E: Sink>(
 
     // Where the source has the file, it has no fault and no call failed, the run is done.
     ensures complete { MatchResult (ask_of (map string_bytes words.now))
-        (λ command. IsDoneUnlessFailed (verdict_of command) (file_of command) (S.view source) (S.view result.1) (O.view out.old) (O.view out.new) result.0)
+        (λ command. IsDoneUnlessFailed (IsSoundFor command) (IsDoneFor command) (file_of command) (S.view source) (S.view result.1) (O.view out.old) (O.view out.new) result.0)
         (λ _. Unit {0}) }
 
     // No command calls the target.
     ensures target { result.2 ≡ target }
 {
-    let _ = alloc;
     let ask = match read_words(words) {
         Ok(ask) => ask,
         Err(fault) => {
@@ -71,9 +70,7 @@ pub fn run<S: Source, T: Target, O: Sink, E: Sink>(
             return (Status::WordsFault, source, target);
         }
     };
-    let (source, result) = match ask {
-        Ask::Pages(file) => pages(file, source, out),
-    };
+    let (source, result) = perform(alloc, ask, source, out);
     match result {
         Ok(()) => (Status::Done, source, target),
         Err(fault) => (report(fault, err), source, target),

@@ -8,6 +8,8 @@ ghost use Rattle.e57_tool.specs.Words.{ask_of, command_of, place_of};
 pub enum Ask<'a> {
     /// `pages FILE`
     Pages(&'a str),
+    /// `info FILE`
+    Info(&'a str),
 }
 
 /// The words ask for nothing.
@@ -45,11 +47,17 @@ pub fn read_words(words: &[String]) -> Result<Ask<'_>, WordFault>
     let [command, places @ ..] = words else {
         return Err(WordFault { at: 0 });
     };
-    if command.as_str() != "pages" {
-        return Err(WordFault { at: 0 });
+    if command.as_str() == "pages" {
+        return match file_of(places) {
+            Ok(file) => Ok(Ask::Pages(file)),
+            Err(fault) => Err(fault),
+        };
     }
-    match file_of(places) {
-        Ok(file) => Ok(Ask::Pages(file)),
-        Err(fault) => Err(fault),
+    if command.as_str() == "info" {
+        return match file_of(places) {
+            Ok(file) => Ok(Ask::Info(file)),
+            Err(fault) => Err(fault),
+        };
     }
+    Err(WordFault { at: 0 })
 }

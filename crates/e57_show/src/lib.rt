@@ -1,0 +1,6 @@
+//! What the program shows of an opened file.
+#![tactic(auto)]
+
+mod shown;
+
+pub use shown::info;
