@@ -7,3 +7,5 @@ mod Steps
 mod Counts
 mod Characters
 mod Lawful
+mod Reached
+mod OneAnswer

@@ -103,10 +103,9 @@ pub struct Builder {
 
 impl Builder {
     ghost use Rattle.e57_pieces.specs.declared.piece.Piece.TheVariants.{Start, Empty, End, Comment, CData, Text};
-    ghost use Rattle.e57_elements.specs.Tree.{Element};
-    ghost use Rattle.e57_elements.specs.Lawful.{IsLawful};
-    ghost use Rattle.e57_elements.specs.Machine.{State, reading, done};
-    ghost use Rattle.e57_elements.specs.Builder.{Keeps, IsBuilder, Takes, Admits, Finishes};
+    ghost use Rattle.std.specs.Prelude.{[]};
+    ghost use Rattle.e57_elements.specs.Machine.{State, reading};
+    ghost use Rattle.e57_elements.specs.Builder.{Keeps, IsBuilder, IsFinished, Takes, Admits, Ends};
 
     /// Before the first piece.
     pub fn new(alloc: Global) -> Builder
@@ -227,16 +226,18 @@ impl Builder {
         Ok(())
     }
 
-    /// The tree, where the root has ended. Takes no memory.
-    pub fn finish(self) -> Option<RawTree>
-        requires sound { IsBuilder self }
-        requires lawful { (tree : Element) → Keeps self (done tree) → IsLawful tree }
-        ensures { (state : State) → Keeps self state → Finishes state result }
+    /// The tree, where no piece is spelled at this byte because the text ends there. Takes no memory.
+    pub fn finish(self, at_end: bool, byte: u64) -> Result<RawTree, TextFault>
+        requires { IsFinished self }
+        ensures { (state : State) → Keeps self state → Ends state at_end byte result }
     {
         let Builder { nodes, done, .. } = self;
-        if !done {
-            return None;
+        if !at_end {
+            return Err(refused(Kind::Piece, byte, 0));
         }
-        Some(RawTree::new(nodes))
+        if !done {
+            return Err(refused(Kind::Nest, byte, 0));
+        }
+        Ok(RawTree::new(nodes))
     }
 }

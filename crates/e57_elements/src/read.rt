@@ -37,18 +37,13 @@ fn read_pieces(alloc: Global, mut pieces: Pieces<'_>, len: usize) -> Result<RawT
     let mut builder = Builder::new(alloc);
     loop {
         let byte = (len - pieces.len()) as u64;
-        let found = match pieces.next(alloc) {
-            Ok(found) => found,
+        match pieces.next(alloc) {
             Err(_error) => return Err(TextFault::Memory),
-        };
-        let Some(piece) = found else {
-            if !pieces.is_empty() {
-                return Err(refused(Kind::Piece, byte, 0));
-            }
-            return builder.finish().ok_or(refused(Kind::Nest, byte, 0));
-        };
-        if let Err(stop) = builder.take(alloc, piece) {
-            return Err(stop.fault_at(byte));
+            Ok(None) => return builder.finish(pieces.is_empty(), byte),
+            Ok(Some(piece)) => match builder.take(alloc, piece) {
+                Err(stop) => return Err(stop.fault_at(byte)),
+                Ok(()) => {}
+            },
         }
     }
 }
