@@ -1,9 +1,10 @@
+mod Lists
+mod Steps
 mod Runs
 mod Represents
 mod Nodes
 mod Limits
 mod Builds
-mod Steps
 mod Counts
 mod Characters
 mod Lawful
