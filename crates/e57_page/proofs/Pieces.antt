@@ -1,18 +1,18 @@
 -- A range is read page by page.
-use Rattle.std.proofs.Common.{◌≡◌, ℕ, ◌+◌, ◌-◌, ◌*◌, ◌/◌, ◌<◌, ◌≤◌, min, List, [], ◌∷◌, ◌++◌, length, take, drop, Option, Some, None, IfSome, inl, inr, refl, sym, ap, ◌∙◌, subst, arith, length-take, length-drop}
+use Rattle.std.proofs.Common.{◌≡◌, ◌≢◌, ℕ, ◌+◌, ◌-◌, ◌*◌, ◌/◌, ◌<◌, ◌≤◌, min, List, [], ◌∷◌, ◌++◌, length, take, drop, Option, Some, None, IfSome, inl, inr, refl, sym, ap, ◌∙◌, subst, arith, length-take, length-drop}
 use Rattle.std.proofs.lemmas.List.{take-take, take_all, drop_all, take_at, drop_at, drop-drop, drop-take, take-append-drop, append-nil}
 use Rattle.std.proofs.lemmas.Bool.{cases_lt}
 use Rattle.std.proofs.lemmas.Bool.Decides.{nat_tests}
 use Rattle.std.proofs.lemmas.Slice.{drop-put_mid}
 use Rattle.e57_base.specs.Source.{SourceView, HoldsSize, page_of}
 use Rattle.e57_base.specs.declared.fault.ReadFault.{ReadFault}
-use Rattle.e57_page.specs.Place.{RisesWithin, span_end}
-use Rattle.e57_page.specs.PlaceLaws.{rises_on}
+use Rattle.e57_page.specs.Place.{RisesWithin, span_end, unless_kept}
+use Rattle.e57_page.specs.PlaceLaws.{rises_after}
 use Rattle.e57_page.specs.File.{logical, page_fault, pages_fault}
 use Rattle.e57_page.specs.FileLaws.{pages_fault-zero, pages_fault-more, logical-piece}
 use Rattle.e57_page.specs.Pages.{AsksFor, ReadsRange, IsCutAt}
 use Rattle.e57_page.specs.PagesLaws.{asks_for_none, asks_for_on, is_stopped_before}
-use Rattle.e57_page.specs.Fetch.{IsKept, IsNotFetched, AsksAtMost, before_page, page_piece, with_part, SameBetween, ReadsPiece, HasRead}
+use Rattle.e57_page.specs.Fetch.{IsKept, IsNotFetched, AsksUnlessKept, before_page, page_piece, with_part, SameBetween, ReadsPiece, HasRead}
 use Rattle.e57_page.proofs.Fetching.{told_right, told_later}
 
 -- the front, the part and the rest of a list with a part
@@ -104,8 +104,8 @@ told_has None known size n law is below = tt
 told_has (Some file) known size n law is below = let same : length file ≡ size = cc in rw same below
 
 -- Page n was kept, and a piece of it copied.
-pub reads_piece : (old new : SourceView) (at n size : ℕ) (page before after : List ℕ) → HoldsSize old → old.size ≡ Some size → n < size / 1024 → at < 1020 * (n + 1) → 1020 * n < at + length before → length page ≡ 1024 → AsksAtMost old n new → IsKept new n page → after ≡ with_part (before_page at n) (page_piece at n (length before) page) before → ReadsPiece old at n before after new
-reads_piece old new at n size page before after law is below reaches begins long asked kept copied =
+pub reads_piece : (old new : SourceView) (kept_at at n size : ℕ) (page before after : List ℕ) → HoldsSize old → old.size ≡ Some size → n < size / 1024 → at < 1020 * (n + 1) → 1020 * n < at + length before → length page ≡ 1024 → AsksUnlessKept old kept_at n new → IsKept new n page → after ≡ with_part (before_page at n) (page_piece at n (length before) page) before → ReadsPiece old kept_at at n before after new
+reads_piece old new kept_at at n size page before after law is below reaches begins long asked kept copied =
     let same : new.held ≡ old.held = asked.2.same.held in
     let bytes : IfSome old.held (λ file. page ≡ page_of file n) = told_later new.held old.held n page (sym same) kept.bytes in
     record {
@@ -125,8 +125,8 @@ told_nothing : (held : Option (List ℕ)) (at size : ℕ) (before : List ℕ) �
 told_nothing None at size before = tt
 told_nothing (Some file) at size before = let none : before_page at (at / 1020) ≡ 0 = omega arith in rw none
 
-pub has_read_none : (source : SourceView) (at : ℕ) (before : List ℕ) → HasRead source at (at / 1020) before before source
-has_read_none source at before =
+pub has_read_none : (source : SourceView) (kept at : ℕ) (before : List ℕ) → HasRead source kept at (at / 1020) before before source
+has_read_none source kept at before =
     record {
       source = ([], tt, asks_for_none source);
       right = told_start source.held at before;
@@ -147,8 +147,8 @@ told_bytes_more None at n size between after front bytes piece = tt
 told_bytes_more (Some file) at n size between after front bytes piece =
     take_on (before_page at n) (before_page at (n + 1)) after (take size (drop at (logical file))) (omega arith) (front ∙ bytes) piece
 
-pub has_read_more : (old mid new : SourceView) (at n : ℕ) (before between after : List ℕ) → at / 1020 ≤ n → length between ≡ length before → HasRead old at n before between mid → ReadsPiece mid at n between after new → HasRead old at (n + 1) before after new
-has_read_more old mid new at n before between after begun long read piece =
+pub has_read_more : (old mid new : SourceView) (kept now at n : ℕ) (before between after : List ℕ) → at / 1020 ≤ n → (n ≡ at / 1020 → now ≡ kept) → length between ≡ length before → HasRead old kept at n before between mid → ReadsPiece mid now at n between after new → HasRead old kept at (n + 1) before after new
+has_read_more old mid new kept now at n before between after begun still long read piece =
     let same : mid.held ≡ old.held = read.source.2.same.held in
     let right : IfSome old.held (λ file. page_fault file n ≡ None) = subst (λ (held : Option (List ℕ)). IfSome held (λ file. page_fault file n ≡ None)) same piece.right in
     let bytes : IfSome old.held (λ file. SameBetween (before_page at n) (before_page at (n + 1)) after (take (length before) (drop at (logical file)))) =
@@ -158,7 +158,7 @@ has_read_more old mid new at n before between after begun long read piece =
     record {
       source = (
         read.source.0 ++ piece.source.0,
-        rises_on (at / 1020) n (n + 1) read.source.0 piece.source.0 begun (omega arith) read.source.1 piece.source.1,
+        rises_after kept now (at / 1020) n read.source.0 piece.source.0 begun still read.source.1 piece.source.1,
         asks_for_on read.source.0 piece.source.0 read.source.2 piece.source.2,
       );
       right = told_right_more old.held (at / 1020) n begun read.right right;
@@ -182,23 +182,31 @@ told_all None at high size after long reaches bytes = tt
 told_all (Some file) at high size after long reaches bytes =
     sym (take_all high after (omega arith)) ∙ (bytes ∙ take_all high (take size (drop at (logical file))) (rw length-take (omega arith)))
 
-pub has_read_all : (old new : SourceView) (at n : ℕ) (before after : List ℕ) → length after ≡ length before → n ≡ span_end at (length before) → HasRead old at n before after new → ReadsRange old at (length before) after new
-has_read_all old new at n before after long is read =
+pub has_read_all : (old new : SourceView) (kept at n : ℕ) (before after : List ℕ) → length after ≡ length before → n ≡ span_end at (length before) → HasRead old kept at n before after new → ReadsRange old kept at (length before) after new
+has_read_all old new kept at n before after long is read =
     record {
-      source = subst (λ (high : ℕ). (pages : List ℕ) × RisesWithin (at / 1020) high pages × AsksFor old pages new) is read.source;
+      source = subst (λ (high : ℕ). (pages : List ℕ) × RisesWithin (unless_kept kept (at / 1020)) high pages × AsksFor old pages new) is read.source;
       right = subst (λ (high : ℕ). IfSome old.held (λ file. pages_fault file (at / 1020) (high - at / 1020) ≡ None)) is read.right;
       bytes = told_all old.held at (before_page at n) (length before) after long (subst (λ (high : ℕ). length before ≤ before_page at high) (sym is) (end_reaches at (length before))) read.bytes;
     }
+
+-- page n, which isn't kept, is asked for
+asked_again : (kept n : ℕ) → kept ≢ n → RisesWithin (unless_kept kept n) (n + 1) (n ∷ [])
+asked_again kept n other = (grind (arith, nat_tests), omega arith, tt)
 
 -- a page stopped the read
 told_cut : (held : Option (List ℕ)) (at done size : ℕ) (after : List ℕ) → done ≤ size → IfSome held (λ file. take done after ≡ take done (take size (drop at (logical file)))) → IfSome held (λ file. take done after ≡ take done (drop at (logical file)))
 told_cut None at done size after fits bytes = tt
 told_cut (Some file) at done size after fits bytes = bytes ∙ take-take done size (drop at (logical file)) fits
 
-pub is_cut : (old mid new : SourceView) (at n : ℕ) (before after : List ℕ) (found : ReadFault) → at / 1020 ≤ n → before_page at n < length before → HasRead old at n before after mid → IsNotFetched mid n found new → IsCutAt old at before (record { done = before_page at n; fault = found }) after n new
-is_cut old mid new at n before after found begun begins read failed =
+pub is_cut : (old mid new : SourceView) (kept now at n : ℕ) (before after : List ℕ) (found : ReadFault) → at / 1020 ≤ n → (n ≡ at / 1020 → now ≡ kept) → now ≢ n → before_page at n < length before → HasRead old kept at n before after mid → IsNotFetched mid n found new → IsCutAt old kept at before (record { done = before_page at n; fault = found }) after n new
+is_cut old mid new kept now at n before after found begun still other begins read failed =
     record {
-      source = (read.source.0, read.source.1, asks_for_on read.source.0 (n ∷ []) read.source.2 failed.source);
+      source = (
+        read.source.0,
+        rises_after kept now (at / 1020) n read.source.0 (n ∷ []) begun still read.source.1 (asked_again now n other),
+        asks_for_on read.source.0 (n ∷ []) read.source.2 failed.source,
+      );
       short = omega arith;
       done = refl;
       place = omega arith;

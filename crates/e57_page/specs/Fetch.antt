@@ -4,7 +4,7 @@ use Rattle.e57_base.specs.Source.{SourceView, HasPage, page_of}
 use Rattle.e57_base.specs.declared.fault.ReadFault.{ReadFault}
 use Rattle.e57_crc.specs.Crc.{is_right}
 use Rattle.e57_page.specs.declared.header.Header.{Header}
-use Rattle.e57_page.specs.Place.{RisesWithin}
+use Rattle.e57_page.specs.Place.{RisesWithin, unless_kept}
 use Rattle.e57_page.specs.File.{logical, length_fault, page_fault, pages_fault}
 use Rattle.e57_page.specs.Pages.{AsksFor, IsStopped}
 
@@ -31,9 +31,9 @@ pub record IsNotFetched (old : SourceView) (n : ℕ) (found : ReadFault) (new : 
   pub source : AsksFor old (n ∷ []) new
   pub cause : IsStopped old n found new
 
--- No page but n was asked for, and at most once.
-abbrev pub AsksAtMost : SourceView → ℕ → SourceView → Type 0
-AsksAtMost old n new = (pages : List ℕ) × RisesWithin n (n + 1) pages × AsksFor old pages new
+-- Page n was asked for at most once, and not where it was kept; and no other page was.
+abbrev pub AsksUnlessKept : SourceView → ℕ → ℕ → SourceView → Type 0
+AsksUnlessKept old kept n new = (pages : List ℕ) × RisesWithin (unless_kept kept n) (n + 1) pages × AsksFor old pages new
 
 -- how many of the bytes from place `at` on lie before page n
 abbrev pub before_page : ℕ → ℕ → ℕ
@@ -52,16 +52,16 @@ abbrev pub SameBetween : ℕ → ℕ → List ℕ → List ℕ → Type 0
 SameBetween low high xs ys = take (high - low) (drop low xs) ≡ take (high - low) (drop low ys)
 
 -- The bytes of the range from place `at` on that lie in page n were read, and no other byte of the buffer changed.
-pub record ReadsPiece (old : SourceView) (at n : ℕ) (before after : List ℕ) (new : SourceView) : Type 0 where
-  pub source : AsksAtMost old n new
+pub record ReadsPiece (old : SourceView) (kept at n : ℕ) (before after : List ℕ) (new : SourceView) : Type 0 where
+  pub source : AsksUnlessKept old kept n new
   pub right : IfSome old.held (λ file. page_fault file n ≡ None)
   pub front : take (before_page at n) after ≡ take (before_page at n) before
   pub piece : IfSome old.held (λ file. SameBetween (before_page at n) (before_page at (n + 1)) after (take (length before) (drop at (logical file))))
   pub rest : drop (before_page at (n + 1)) after ≡ drop (before_page at (n + 1)) before
 
 -- The bytes of the range from place `at` on that lie before page n were read, and no other byte of the buffer changed.
-pub record HasRead (old : SourceView) (at n : ℕ) (before after : List ℕ) (new : SourceView) : Type 0 where
-  pub source : (pages : List ℕ) × RisesWithin (at / 1020) n pages × AsksFor old pages new
+pub record HasRead (old : SourceView) (kept at n : ℕ) (before after : List ℕ) (new : SourceView) : Type 0 where
+  pub source : (pages : List ℕ) × RisesWithin (unless_kept kept (at / 1020)) n pages × AsksFor old pages new
   pub right : IfSome old.held (λ file. pages_fault file (at / 1020) (n - at / 1020) ≡ None)
   pub bytes : IfSome old.held (λ file. take (before_page at n) after ≡ take (before_page at n) (take (length before) (drop at (logical file))))
   pub rest : drop (before_page at n) after ≡ drop (before_page at n) before

@@ -1,10 +1,10 @@
 //! Pages of a source: asked for, tested, kept.
 
-ghost use Rattle.std.specs.Prelude.{◌≡◌, ◌/◌, ℕ, Some, None, length, MatchResult};
+ghost use Rattle.std.specs.Prelude.{◌≡◌, ◌≢◌, ◌/◌, ℕ, Some, None, length, MatchResult};
 ghost use Rattle.e57_base.specs.Source.{HasPage};
 ghost use Rattle.e57_page.specs.File.{length_fault};
 ghost use Rattle.e57_page.specs.Pages.{IsOpened, IsNotOpened, IsScanned, IsScannedTo};
-ghost use Rattle.e57_page.specs.Fetch.{IsKept, IsFetched, IsNotFetched, AsksAtMost};
+ghost use Rattle.e57_page.specs.Fetch.{IsKept, IsFetched, IsNotFetched, AsksUnlessKept};
 
 use crate::header::Header;
 use e57_base::{Fault, Kind, ReadFault, Source};
@@ -75,8 +75,8 @@ pub fn keep<S: Source>(
     ensures long { length page.new ≡ 1024 }
     ensures kept { IsKept (S.view source.new) number.new page.new }
     ensures pages { MatchResult result
-        (λ _. (number.new ≡ n) × AsksAtMost (S.view source.old) n (S.view source.new))
-        (λ fault. IsNotFetched (S.view source.old) n fault (S.view source.new)) }
+        (λ _. (number.new ≡ n) × AsksUnlessKept (S.view source.old) number.old n (S.view source.new))
+        (λ fault. (number.old ≢ n) × IsNotFetched (S.view source.old) n fault (S.view source.new)) }
 {
     if *number == n {
         return Ok(());

@@ -1,6 +1,6 @@
 //! The pages of an open file.
 
-ghost use Rattle.std.specs.Prelude.{◌≡◌, ◌+◌, ◌*◌, ◌/◌, ◌≤◌, ◌<◌, ℕ, Some, length, MatchResult};
+ghost use Rattle.std.specs.Prelude.{◌≡◌, ◌≢◌, ◌+◌, ◌*◌, ◌/◌, ◌≤◌, ◌<◌, ℕ, Some, length, MatchResult};
 ghost use Rattle.e57_page.specs.File.{length_fault};
 ghost use Rattle.e57_page.specs.Pages.{IsOpened, IsNotOpened, ReadsRange, IsCutAt, IsScanned, IsScannedTo};
 ghost use Rattle.e57_page.specs.Fetch.{ReadsPiece, IsNotFetched};
@@ -38,7 +38,7 @@ impl<S: Source> Model for Pages<S> {
 
     ghost Value = { Reading S };
 
-    ghost view = { λ p. record { source = p.source; length = p.length; header = p.header } };
+    ghost view = { λ p. record { source = p.source; length = p.length; header = p.header; kept = p.number } };
 
     ghost invariant = { λ p. IsSound (S.view p.source) p.length p.header p.number p.page };
 }
@@ -51,7 +51,8 @@ impl<S: Source> Pages<S> {
     /// `Page` where the word of page 0 is wrong.
     pub fn open(mut source: S, length: u64) -> Result<Pages<S>, (S, ReadFault)>
         requires { (S.view source).size ≡ Some length }
-        ensures { MatchResult result
+        ensures kept { MatchResult result (λ pages. pages.kept ≡ 0) (λ _. Unit {0}) }
+        ensures opened { MatchResult result
             (λ pages. IsOpened (S.view source) length pages.length pages.header (S.view pages.source))
             (λ refusal. IsNotOpened (S.view source) length refusal.1 (S.view refusal.0)) }
     {
@@ -85,9 +86,10 @@ impl<S: Source> Pages<S> {
         &self.header
     }
 
-    /// The number of logical bytes of the file.
+    /// The number of logical bytes of the file, which is still open.
     pub fn logical_len(&self) -> u64
-        ensures { result ≡ self.now.length / 1024 * 1020 }
+        ensures count { result ≡ self.now.length / 1024 * 1020 }
+        ensures open_size { (S.view self.now.source).size ≡ Some self.now.length }
     {
         self.length / 1024 * 1020
     }
@@ -102,8 +104,8 @@ impl<S: Source> Pages<S> {
         ensures length { self.new.length ≡ self.old.length }
         ensures header { self.new.header ≡ self.old.header }
         ensures range { MatchResult result
-            (λ _. ReadsRange (S.view self.old.source) at (length out.old) out.new (S.view self.new.source))
-            (λ cut. (n : ℕ) × IsCutAt (S.view self.old.source) at out.old cut out.new n (S.view self.new.source)) }
+            (λ _. ReadsRange (S.view self.old.source) self.old.kept at (length out.old) out.new (S.view self.new.source))
+            (λ cut. (n : ℕ) × IsCutAt (S.view self.old.source) self.old.kept at out.old cut out.new n (S.view self.new.source)) }
     {
         let limit = self.logical_len();
         prove!(at <= limit);
@@ -128,8 +130,8 @@ impl<S: Source> Pages<S> {
         ensures length { self.new.length ≡ self.old.length }
         ensures header { self.new.header ≡ self.old.header }
         ensures piece { MatchResult result
-            (λ _. ReadsPiece (S.view self.old.source) at n out.old out.new (S.view self.new.source))
-            (λ fault. (out.new ≡ out.old) × IsNotFetched (S.view self.old.source) n fault (S.view self.new.source)) }
+            (λ _. (self.new.kept ≡ n) × ReadsPiece (S.view self.old.source) self.old.kept at n out.old out.new (S.view self.new.source))
+            (λ fault. (self.old.kept ≢ n) × (out.new ≡ out.old) × IsNotFetched (S.view self.old.source) n fault (S.view self.new.source)) }
     {
         if let Err(fault) = keep(&mut self.source, n, &mut self.number, &mut self.page) {
             return Err(fault);

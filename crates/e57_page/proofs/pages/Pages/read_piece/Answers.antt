@@ -13,4 +13,4 @@ returns-clause-piece g c =
     let size : inside.length ≡ c.args.self.now.length = ap (λ (reading : Reading _). reading.length) c.self.view_is in
     let below : c.args.n < inside.length / 1024 = rw size c.requires.page in
     rw (← c.self.view_is)
-    (reads_piece (g.S.Source.view inside.source) (g.S.Source.view c.keep.new.source) c.args.at c.args.n inside.length c.keep.new.page c.args.out.now c.copy_piece.new.out law c.self.invariant.open_size below c.requires.reaches c.requires.begins c.in_default.ensures.long asked.1 kept c.copy_piece.ensures)
+    (asked.0, reads_piece (g.S.Source.view inside.source) (g.S.Source.view c.keep.new.source) inside.number c.args.at c.args.n inside.length c.keep.new.page c.args.out.now c.copy_piece.new.out law c.self.invariant.open_size below c.requires.reaches c.requires.begins c.in_default.ensures.long asked.1 kept c.copy_piece.ensures)
