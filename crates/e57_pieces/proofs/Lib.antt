@@ -1,0 +1,5 @@
+pub mod Fronts
+pub mod Loops
+pub mod Names
+pub mod Steps
+pub mod Encodings

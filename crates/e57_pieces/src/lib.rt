@@ -1,0 +1,21 @@
+//! The pieces of an element text: tags, comments, CDATA and text runs, each read from the front of a text.
+#![tactic(auto)]
+
+mod attributes;
+mod characters;
+mod laws;
+mod markup;
+mod piece;
+mod pieces;
+mod start;
+mod stop;
+mod text;
+mod words;
+
+pub use characters::valid_len;
+pub use laws::one_cut;
+pub use piece::{Attr, Attrs, Piece};
+pub use pieces::Pieces;
+
+#[cfg(test)]
+mod tests;
