@@ -3,3 +3,9 @@ pub mod Kind
 pub mod Source
 pub mod Target
 pub mod Sink
+pub mod Calls
+pub mod BytesSource
+pub mod Files
+pub mod MemSource
+pub mod MemTarget
+pub mod MemSink

@@ -1,5 +1,5 @@
 -- What a target of a new file tells, and what its calls do to it.
-use Rattle.std.specs.Prelude.{◌≡◌, ◌⊎◌, ℕ, ◌+◌, ◌-◌, ◌*◌, ◌<◌, ◌≤◌, max, Bool, true, false, ◌==◌, if◌then◌else◌, List, [], ◌++◌, length, take, drop, slice_index, Option, Some, None, IsSomeAnd, MatchOption, Result, is_ok, MatchResult, OnErr}
+use Rattle.std.specs.Prelude.{◌≡◌, ◌⊎◌, ℕ, ◌+◌, ◌-◌, ◌*◌, ◌<◌, ◌≤◌, max, Bool, false, ◌==◌, if◌then◌else◌, List, [], ◌++◌, length, take, drop, slice_index, Option, Some, None, IsSomeAnd, MatchOption, Result, is_ok, MatchResult, OnErr}
 use Rattle.std.specs.Option.{option_map}
 use Rattle.e57_base.specs.Count.{raised, Rose}
 use Rattle.e57_base.specs.declared.fault.Failed.{Failed}

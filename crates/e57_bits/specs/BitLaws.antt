@@ -1,8 +1,9 @@
 -- Laws of bits and numbers in a list of bytes.
-use Rattle.std.proofs.Common.{◌≡◌, ℕ, zero, suc, ◌+◌, ◌*◌, ◌/◌, ◌%◌, ◌^◌, ◌<◌, ◌≤◌, List, take, drop, get_or, refl, sym, ◌∙◌, arith, add-zero, add-suc, one-add, lit≤, get_or-take, get_or-drop}
+use Rattle.std.proofs.Common.{◌≡◌, ℕ, zero, suc, ◌+◌, ◌*◌, ◌/◌, ◌%◌, ◌^◌, ◌<◌, ◌≤◌, List, length, take, drop, get_or, refl, sym, ap, length-take, length-drop, ◌∙◌, arith, add-zero, add-suc, one-add, lit≤, lit<, get_or-take, get_or-drop}
 use Rattle.std.proofs.Math.Nat.{pow-suc, mod-one, mod-eq_of_lt}
-use Rattle.std.proofs.lemmas.Nat.{mod-pow-add, pow-add}
-use Rattle.e57_bits.specs.Bits.{bit, number}
+use Rattle.std.proofs.lemmas.Nat.{mod_below, mod-pow-add, pow-add, from_le_bytes-to_le_bytes_4, from_le_bytes-to_le_bytes_8}
+use Rattle.std.specs.Int.{bytes_low_first, from_le_bytes, to_le_bytes, w32, w64}
+use Rattle.e57_bits.specs.Bits.{bit, number, le}
 
 -- a bit is 0 or 1
 pub bit-lt : (b : List ℕ) (t : ℕ) → bit b t < 2
@@ -91,3 +92,67 @@ number-low_bits b i (suc w) h =
 -- eight bits from the start of a byte are that byte
 pub number-byte : (b : List ℕ) (i : ℕ) → get_or b i 0 < 256 → number b (8 * i) 8 ≡ get_or b i 0
 number-byte b i h = number-low_bits b i 8 (lit≤ tt) ∙ mod-eq_of_lt h
+
+-- byte i is the lowest of the number that begins there
+pub number-byte_first : (b : List ℕ) (i w : ℕ) → get_or b i 0 < 256 → number b (8 * i) (8 + w) ≡ get_or b i 0 + 256 * number b (8 * i + 8) w
+number-byte_first b i w h = rw (number-split b (8 * i) 8 w, number-byte b i h) refl
+
+-- n bytes from byte k on, as a number by themselves
+pub le-piece : (b : List ℕ) (k n : ℕ) → k + n ≤ length b → le (take n (drop k b)) ≡ number b (8 * k) (8 * n)
+unfolding le
+le-piece b k n h =
+    let long : length (take n (drop k b)) ≡ n = simp (length-take, length-drop) (omega arith) in
+    ap (λ m. number (take n (drop k b)) 0 (8 * m)) long
+    ∙ number-take (drop k b) n 0 (8 * n) (omega arith)
+    ∙ number-drop b k 0 (8 * n)
+    ∙ ap (λ t. number b t (8 * n)) (add-zero (8 * k))
+
+-- four and eight bytes, in std's words
+pub le-from_le_bytes_4 : (b : List ℕ) → ((k : ℕ) → get_or b k 0 < 256) → length b ≡ 4 → le b ≡ from_le_bytes w32 b
+unfolding le
+le-from_le_bytes_4 b small h =
+    ap (λ m. number b 0 (8 * m)) h
+    ∙ number-byte_first b 0 24 (small 0)
+    ∙ next 0 24 (number-byte_first b 1 16 (small 1)
+    ∙ next 1 16 (number-byte_first b 2 8 (small 2)
+    ∙ next 2 8 (number-byte b 3 (small 3))))
+    ∙ sum_of (get_or b 0 0) (get_or b 1 0) (get_or b 2 0) (get_or b 3 0)
+  where
+    next : (i w : ℕ) {x : ℕ} → number b (8 * i + 8) w ≡ x → get_or b i 0 + 256 * number b (8 * i + 8) w ≡ get_or b i 0 + 256 * x
+    next i w e = ap (λ n. get_or b i 0 + 256 * n) e
+
+    sum_of : (p q r s : ℕ) → p + 256 * (q + 256 * (r + 256 * s)) ≡ p + q * 256 ^ 1 + r * 256 ^ 2 + s * 256 ^ 3
+    sum_of p q r s = omega arith
+
+pub le-from_le_bytes_8 : (b : List ℕ) → ((k : ℕ) → get_or b k 0 < 256) → length b ≡ 8 → le b ≡ from_le_bytes w64 b
+unfolding le
+le-from_le_bytes_8 b small h =
+    ap (λ m. number b 0 (8 * m)) h
+    ∙ number-byte_first b 0 56 (small 0)
+    ∙ next 0 56 (number-byte_first b 1 48 (small 1)
+    ∙ next 1 48 (number-byte_first b 2 40 (small 2)
+    ∙ next 2 40 (number-byte_first b 3 32 (small 3)
+    ∙ next 3 32 (number-byte_first b 4 24 (small 4)
+    ∙ next 4 24 (number-byte_first b 5 16 (small 5)
+    ∙ next 5 16 (number-byte_first b 6 8 (small 6)
+    ∙ next 6 8 (number-byte b 7 (small 7))))))))
+    ∙ sum_of (get_or b 0 0) (get_or b 1 0) (get_or b 2 0) (get_or b 3 0) (get_or b 4 0) (get_or b 5 0) (get_or b 6 0) (get_or b 7 0)
+  where
+    next : (i w : ℕ) {x : ℕ} → number b (8 * i + 8) w ≡ x → get_or b i 0 + 256 * number b (8 * i + 8) w ≡ get_or b i 0 + 256 * x
+    next i w e = ap (λ n. get_or b i 0 + 256 * n) e
+
+    sum_of : (p q r s t u v w : ℕ) → p + 256 * (q + 256 * (r + 256 * (s + 256 * (t + 256 * (u + 256 * (v + 256 * w)))))) ≡ p + q * 256 ^ 1 + r * 256 ^ 2 + s * 256 ^ 3 + t * 256 ^ 4 + u * 256 ^ 5 + v * 256 ^ 6 + w * 256 ^ 7
+    sum_of p q r s t u v w = omega arith
+
+bytes_low_first-lt : (j m n k : ℕ) → get_or (bytes_low_first j m n) k 0 < 256
+bytes_low_first-lt j zero n k = lit< tt
+bytes_low_first-lt zero (suc m) n zero = omega arith
+bytes_low_first-lt (suc j) (suc m) n zero = mod_below (n / 256 ^ suc j) 256 (lit< tt)
+bytes_low_first-lt j (suc m) n (suc k) = bytes_low_first-lt (suc j) m n k
+
+-- a number of 32 or 64 bits is that of its bytes, the lowest first
+pub le-to_le_bytes_4 : (n : ℕ) → n < 2 ^ 32 → le (to_le_bytes w32 n) ≡ n
+le-to_le_bytes_4 n h = le-from_le_bytes_4 (to_le_bytes w32 n) (bytes_low_first-lt 0 4 n) refl ∙ from_le_bytes-to_le_bytes_4 n h
+
+pub le-to_le_bytes_8 : (n : ℕ) → n < 2 ^ 64 → le (to_le_bytes w64 n) ≡ n
+le-to_le_bytes_8 n h = le-from_le_bytes_8 (to_le_bytes w64 n) (bytes_low_first-lt 0 8 n) refl ∙ from_le_bytes-to_le_bytes_8 n h

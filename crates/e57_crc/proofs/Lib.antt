@@ -1,0 +1,4 @@
+pub mod StepLaws
+pub mod RegisterLaws
+pub mod TableLaws
+pub mod WordLaws

@@ -1,5 +1,5 @@
 -- CRC-32C, bit by bit, and the checksum word of a page (ASTM E2807, physical layout).
-use Rattle.std.specs.Prelude.{ℕ, zero, suc, ◌+◌, ◌*◌, ◌/◌, ◌%◌, Bool, ◌==◌, ◌||◌, List, length, take, drop, reverse, bit_xor}
+use Rattle.std.specs.Prelude.{ℕ, zero, suc, ◌*◌, ◌/◌, ◌%◌, Bool, ◌==◌, ◌||◌, List, length, take, drop, reverse, bit_xor}
 use Rattle.e57_bits.specs.Bits.{bit, le}
 
 -- the register shifted right by one, with the reflected polynomial put in where x is 1

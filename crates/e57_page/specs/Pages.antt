@@ -1,5 +1,5 @@
 -- An open file as contracts see it, and what the calls that read its pages answer and do to the source.
-use Rattle.std.specs.Prelude.{◌≡◌, ℕ, ◌+◌, ◌-◌, ◌*◌, ◌/◌, ◌<◌, ◌≤◌, Bool, true, false, List, [], ◌∷◌, ◌++◌, length, take, drop, Option, Some, None, IfSome, MatchOption, Result, Ok, Err}
+use Rattle.std.specs.Prelude.{◌≡◌, ℕ, ◌+◌, ◌-◌, ◌*◌, ◌/◌, ◌<◌, ◌≤◌, Bool, true, false, List, [], ◌∷◌, ◌++◌, length, take, drop, Some, None, IfSome, MatchOption}
 use Rattle.std.specs.List.{range_with_len}
 use Rattle.e57_base.specs.Count.{Rose}
 use Rattle.e57_base.specs.Source.{SourceView, SameFile, Asks}
@@ -10,7 +10,7 @@ use Rattle.e57_base.specs.declared.kind.Kind.{Kind}
 use Rattle.e57_base.specs.declared.kind.Kind.TheVariants.{FileLength, Signature, Version, PageSize, Page}
 use Rattle.e57_page.specs.declared.header.Header.{Header}
 use Rattle.e57_page.specs.declared.pages.Cut.{Cut}
-use Rattle.e57_page.specs.Place.{RisesWithin, span_end}
+use Rattle.e57_page.specs.Place.{RisesWithin, span_end, unless_kept}
 use Rattle.e57_page.specs.Header.{fault, header_of}
 use Rattle.e57_page.specs.File.{logical, length_fault, page_fault, pages_fault, opening_fault}
 
@@ -19,6 +19,8 @@ pub record Reading (S : Type 0) : Type 0 where
   pub source : S
   pub length : ℕ
   pub header : Header
+  -- the number of the page that was read last, which is kept
+  pub kept : ℕ
 
 -- What a call that reads pages does to its source: it asks for these pages, and may fail.
 pub record AsksFor (old : SourceView) (pages : List ℕ) (new : SourceView) : Type 0 where
@@ -36,9 +38,9 @@ is_opening_kind Page = true
 is_opening_kind _ = false
 
 -- The file was opened: its length, its header and its page 0 have no fault.
-pub record IsOpened (old : SourceView) (size : ℕ) (kept : ℕ) (header : Header) (new : SourceView) : Type 0 where
+pub record IsOpened (old : SourceView) (size : ℕ) (told : ℕ) (header : Header) (new : SourceView) : Type 0 where
   pub source : AsksFor old (0 ∷ []) new
-  pub length : kept ≡ size
+  pub length : told ≡ size
   pub sound : length_fault size ≡ None
   pub agrees : header.length ≡ size
   pub first : IfSome old.held (λ file. opening_fault file ≡ None)
@@ -55,9 +57,10 @@ abbrev pub IsNotOpened : SourceView → ℕ → ReadFault → SourceView → Typ
 IsNotOpened old size (Refused found) new = MatchOption (length_fault size) (IsRefusedByPage old found new) (λ wrong. (found ≡ wrong) × AsksFor old [] new)
 IsNotOpened old size Source new = (length_fault size ≡ None) × Rose old.faults new.faults × AsksFor old (0 ∷ []) new
 
--- The range of logical bytes from place `at` on was read: all its pages are right.
-pub record ReadsRange (old : SourceView) (at count : ℕ) (out : List ℕ) (new : SourceView) : Type 0 where
-  pub source : (pages : List ℕ) × RisesWithin (at / 1020) (span_end at count) pages × AsksFor old pages new
+-- The range of logical bytes from place `at` on was read: all its pages are right. The page that was kept isn't asked for
+-- where it is the first.
+pub record ReadsRange (old : SourceView) (kept at count : ℕ) (out : List ℕ) (new : SourceView) : Type 0 where
+  pub source : (pages : List ℕ) × RisesWithin (unless_kept kept (at / 1020)) (span_end at count) pages × AsksFor old pages new
   pub right : IfSome old.held (λ file. pages_fault file (at / 1020) (span_end at count - at / 1020) ≡ None)
   pub bytes : IfSome old.held (λ file. out ≡ take count (drop at (logical file)))
 
@@ -67,8 +70,8 @@ IsStopped old n (Refused found) new = (found ≡ fault Page n 0) × IfSome old.h
 IsStopped old n Source new = Rose old.faults new.faults
 
 -- The read of a range stopped at page n, the last one that it asked for: the bytes before that page were read.
-pub record IsCutAt (old : SourceView) (at : ℕ) (before : List ℕ) (cut : Cut) (after : List ℕ) (n : ℕ) (new : SourceView) : Type 0 where
-  pub source : (pages : List ℕ) × RisesWithin (at / 1020) n pages × AsksFor old (pages ++ n ∷ []) new
+pub record IsCutAt (old : SourceView) (kept at : ℕ) (before : List ℕ) (cut : Cut) (after : List ℕ) (n : ℕ) (new : SourceView) : Type 0 where
+  pub source : (pages : List ℕ) × RisesWithin (unless_kept kept (at / 1020)) (n + 1) (pages ++ n ∷ []) × AsksFor old (pages ++ n ∷ []) new
   pub short : cut.done < length before
   pub done : cut.done ≡ 1020 * n - at
   pub place : n ≡ (at + cut.done) / 1020

@@ -2,10 +2,15 @@
 //! checksum word.
 #![tactic(auto)]
 
+mod fetch;
 mod header;
 mod pages;
+mod piece;
 mod place;
 
 pub use header::Header;
 pub use pages::{Cut, Pages};
-pub use place::{physical_of, place_of};
+pub use place::{one_physical, physical_of, place_of};
+
+#[cfg(test)]
+mod tests;

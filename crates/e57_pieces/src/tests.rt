@@ -1,12 +1,17 @@
 //! Short texts with their pieces, and each way to break a line of the grammar.
 
-use crate::{valid_len, Attr, Attrs, Piece, Pieces};
+use crate::{Attr, Attrs, Piece, Pieces, valid_len};
 use e57_base::{Octets, TextFault};
 use std::alloc::{AllocError, Global};
 use std::process::Abort;
 use std::test::Fail;
 
-fn show_tag(out: &mut Vec<u8>, name: &Octets, attrs: &Attrs, close: &[u8]) -> Result<(), AllocError> {
+fn show_tag(
+    out: &mut Vec<u8>,
+    name: &Octets,
+    attrs: &Attrs,
+    close: &[u8],
+) -> Result<(), AllocError> {
     out.extend_from_slice(b"<")?;
     out.extend_from_slice(name.as_slice())?;
     for i in 0..attrs.len() {
@@ -133,8 +138,14 @@ fn comments_and_texts(rt: HostRuntime) -> Result<(), Fail> {
             ("<![cdata[a]]>", " 13 left"),
             ("é€😀\u{7F}\u{85}\u{FFFD}", "{é€😀\u{7F}\u{85}\u{FFFD}}"),
             ("a&lt;b&amp;", "{a<b&}"),
-            ("&#65;&#0000000066;&#x43;&#x0000000044;&#x1f600;&#x1F600;", "{ABCD😀😀}"),
-            ("&#9;&#xE000;&#xFFFD;&#x10FFFF;", "{\t\u{E000}\u{FFFD}\u{10FFFF}}"),
+            (
+                "&#65;&#0000000066;&#x43;&#x0000000044;&#x1f600;&#x1F600;",
+                "{ABCD😀😀}",
+            ),
+            (
+                "&#9;&#xE000;&#xFFFD;&#x10FFFF;",
+                "{\t\u{E000}\u{FFFD}\u{10FFFF}}",
+            ),
             ("a&#00000000065;", "{a} 14 left"),
             ("a&#x00000000041;", "{a} 15 left"),
             ("&#;", " 3 left"),
@@ -167,7 +178,10 @@ fn starts(rt: HostRuntime) -> Result<(), Fail> {
         rt.alloc(),
         &[
             ("<?xml?>", ""),
-            ("<?xml version=\"1.0\" encoding=\"UTF-8\"?>\n<a/>", "{\n}<a/>"),
+            (
+                "<?xml version=\"1.0\" encoding=\"UTF-8\"?>\n<a/>",
+                "{\n}<a/>",
+            ),
             ("<?xml encoding='uTf-8' ?>x", "{x}"),
             ("<?xml encoding=\"ut&#102;-8\"?>", ""),
             ("<?xml encoding=\"UTF-16\"?>", "fault 0"),

@@ -1,0 +1,35 @@
+//! The program `e57`: makes the real objects, and runs the words of the command line over them.
+#![tactic(auto)]
+
+mod disk_source;
+mod disk_target;
+mod std_sink;
+#[cfg(test)]
+mod tests;
+
+use disk_source::DiskSource;
+use disk_target::DiskTarget;
+use e57_tool::run;
+use std::process::ExitCode;
+use std::{env, io};
+use std_sink::StdSink;
+
+// The words of the command line, without the program's name.
+fn words(rt: &HostRuntime) -> io::Result<Vec<String>> {
+    let mut words = Vec::new(rt.alloc());
+    for word in env::args(rt)?.skip(1) {
+        words.push(word)?;
+    }
+    Ok(words)
+}
+
+fn main(rt: HostRuntime) -> ExitCode {
+    // Words that aren't text ask for nothing.
+    let words = words(&rt).unwrap_or(Vec::new(rt.alloc()));
+    let mut out = StdSink::new(rt.stdout());
+    let mut err = StdSink::new(rt.stderr());
+    let source = DiskSource::new(&rt);
+    let target = DiskTarget::new(&rt);
+    let (status, _, _) = run(rt.alloc(), &words, source, target, &mut out, &mut err);
+    ExitCode::from(status.code())
+}

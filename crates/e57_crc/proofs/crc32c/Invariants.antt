@@ -1,0 +1,6 @@
+use Rattle.std.proofs.Common.{◌≡◌, ◌*◌}
+use Rattle.e57_crc.specs.Crc.{register}
+use Rattle.e57_crc.proofs.crc32c.Given as goal
+
+abbrev pub invariant-loop-i : goal.invariant-loop-i
+invariant-loop-i l = l.so_far ≡ register l.bytes (8 * (8 * l.i))
