@@ -1,9 +1,11 @@
 -- The nodes of a state, and the marks that the builder keeps.
-use Rattle.std.proofs.Common.{◌≡◌, ℕ, suc, ◌+◌, true, cond, ◌&&◌, ltb, eqb, List, [], ◌∷◌, ◌++◌, length, refl, sym, ap, ◌∙◌, append_assoc, length-append, arith}
+use Rattle.std.proofs.Common.{◌≡◌, ℕ, suc, ◌+◌, ◌<◌, true, cond, ◌&&◌, ltb, eqb, List, [], ◌∷◌, ◌++◌, length, refl, sym, ap, subst, ◌∙◌, append_assoc, length-append, arith}
 use Rattle.std.proofs.lemmas.List.{append-nil}
 use Rattle.std.proofs.lemmas.Bool.{lt-ltb, ne_eqb}
+use Rattle.e57_elements.specs.declared.tree.RawNode.{RawNode}
 use Rattle.e57_elements.specs.Tree.{Element, element, Elements, none, more, preorder, preorder_all}
 use Rattle.e57_elements.specs.Nested.{only_space, kept}
+use Rattle.e57_elements.specs.Lawful.{AreNodes}
 use Rattle.e57_elements.specs.Machine.{Open, join, ended, put, open_node, nodes_of, state_nodes}
 use Rattle.e57_elements.specs.Builder.{mark_of, marks_of, state_marks, is_done, ended_node}
 
@@ -38,3 +40,8 @@ ended_is top = ap (λ t. record { name = top.name; attrs = top.attrs; text = t; 
       let e : length (preorder_all (more (element name attrs t ds) es)) ≡ suc (length (preorder_all ds ++ preorder_all es)) = refl in
       let h : ltb 1 (length (preorder_all (more (element name attrs t ds) es)) + 1) ≡ true = lt-ltb 1 (length (preorder_all (more (element name attrs t ds) es)) + 1) (omega arith) in
       ap (λ b. cond (b && only_space text) [] text) h
+
+pub nodes_some : (nodes : List RawNode) → AreNodes nodes → 0 < length nodes
+nodes_some nodes h = subst (λ (ns : List RawNode). 0 < length ns) (sym h.in_preorder) (some_node h.tree) where
+  some_node : (e : Element) → 0 < length (preorder e)
+  some_node (element name attrs text children) = omega arith

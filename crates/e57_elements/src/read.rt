@@ -15,7 +15,8 @@ use e57_pieces::{Pieces, valid_len};
 use std::alloc::Global;
 
 /// Reads the tree that a text spells, of at most 2^26 bytes. Refused: the text's first fault of the kinds `XmlUtf8`,
-/// `Piece`, `Nest` and `TreeLimit`. Time and memory are linear in the text.
+/// `Piece`, `Nest` and `TreeLimit`. Memory is linear in the text, and so is time, but for the search for equal
+/// attribute names in one tag.
 pub fn read_elements(alloc: Global, text: &[u8]) -> Result<RawTree, TextFault>
     requires { length text.now ≤ 2 ^ 26 }
     ensures found { IfOk result (λ nodes. Reads text.now nodes) }
