@@ -1,3 +1,5 @@
+mod Lists
+mod Steps
 mod Runs
 mod Represents
 mod Nodes
@@ -10,3 +12,5 @@ mod Steps
 mod Counts
 mod Characters
 mod Lawful
+mod Reached
+mod OneAnswer

@@ -1,5 +1,5 @@
 -- What the builder of a tree keeps of the machine's state.
-use Rattle.std.specs.Prelude.{◌≡◌, ℕ, ◌+◌, ◌^◌, ◌≤◌, nat_lt, ◌&&◌, Bool, true, false, List, [], ◌∷◌, ◌++◌, length, Option, Some, None, Result, Ok, Err, if◌then◌else◌}
+use Rattle.std.specs.Prelude.{◌≡◌, ℕ, ◌+◌, ◌^◌, ◌≤◌, nat_lt, ◌&&◌, Bool, true, false, List, [], ◌∷◌, ◌++◌, length, Some, None, Result, Ok, Err, if◌then◌else◌}
 use Rattle.e57_base.specs.declared.fault.TextFault.{TextFault}
 use Rattle.e57_base.specs.declared.fault.TextFault.TheVariants as failure
 use Rattle.e57_base.specs.declared.kind.Kind.TheVariants as kind
@@ -44,6 +44,12 @@ pub record IsBuilder (builder : Builder) : Type 0 where
   pub state : State
   pub keeps : Keeps builder state
 
+-- it is in some state, and where the root has ended its tree is lawful
+pub record IsFinished (builder : Builder) : Type 0 where
+  pub state : State
+  pub keeps : Keeps builder state
+  pub is_lawful : (tree : Element) → state ≡ done tree → IsLawful tree
+
 -- What a builder that was in the state did with a piece.
 abbrev pub Takes : {T : Type 0} → State → Piece → Result T Stop → Builder → Type 0
 Takes before piece (Ok x) new = (after : State) × (step before piece ≡ Some after) × (passes_in before piece ≡ None) × Keeps new after
@@ -87,7 +93,8 @@ abbrev pub IsBodyFailure : ℕ → List ℕ → TextFault → Type 0
 IsBodyFailure len body (failure.Refused fault) = IsBodyFault len body fault
 IsBodyFailure len body failure.Memory = Unit {0}
 
--- what the builder gives at the end: the nodes, where the root has ended
-abbrev pub Finishes : State → Option (List RawNode) → Type 0
-Finishes (reading opens) found = found ≡ None
-Finishes (done e) found = found ≡ Some (preorder e)
+-- What comes of a builder where no piece is spelled at this byte, with or without text left.
+abbrev pub Ends : State → Bool → ℕ → Result (List RawNode) TextFault → Type 0
+Ends state false byte result = result ≡ Err (failure.Refused (fault_at kind.Piece byte 0))
+Ends (reading opens) true byte result = result ≡ Err (failure.Refused (fault_at kind.Nest byte 0))
+Ends (done e) true byte result = result ≡ Ok (preorder e)

@@ -4,11 +4,20 @@ ghost use Rattle.std.specs.Prelude.{◌≡◌, ◌^◌, ◌<◌, ◌≤◌, ◌�
 ghost use Rattle.e57_base.specs.declared.fault.TextFault.TheVariants.{Refused};
 ghost use Rattle.e57_elements.specs.Fault.{fault_at};
 
-use crate::text::{is_only_space, TextOut};
+use crate::text::{TextOut, is_only_space};
 use crate::tree::{RawNode, RawTree};
 use e57_base::{Fault, Kind, Octets, TextFault};
 use e57_pieces::{Attrs, Piece};
 use std::alloc::{AllocError, AllocFailed, Global};
+
+/// The most attributes that a tag may have.
+const MAX_ATTRS: usize = 64;
+
+/// The most elements that may be open within one another; the root has depth 1.
+const MAX_DEPTH: usize = 64;
+
+/// The most elements of a tree.
+const MAX_NODES: usize = 1 << 20;
 
 /// An open element: where its node stands, and its text so far.
 #[derive(Drop)]
@@ -25,11 +34,9 @@ impl Mark {
     fn end(self, nodes: &mut Vec<RawNode>)
         requires within { self.place < length nodes.old.items }
         requires few { length nodes.old.items ≤ 2 ^ 20 }
-        ensures {
-            (before : List RawNode) (node : RawNode) (below : List RawNode)
+        ensures { (before : List RawNode) (node : RawNode) (below : List RawNode)
             → nodes.old.items ≡ before ++ node ∷ below → length before ≡ self.place
-            → nodes.new.items ≡ before ++ ended_node node below self.text ∷ below
-        }
+            → nodes.new.items ≡ before ++ ended_node node below self.text ∷ below }
     {
         let size = nodes.len() - self.place;
         let text = self.text.beside(size > 1);
@@ -103,10 +110,9 @@ pub struct Builder {
 
 impl Builder {
     ghost use Rattle.e57_pieces.specs.declared.piece.Piece.TheVariants.{Start, Empty, End, Comment, CData, Text};
-    ghost use Rattle.e57_elements.specs.Tree.{Element};
-    ghost use Rattle.e57_elements.specs.Lawful.{IsLawful};
-    ghost use Rattle.e57_elements.specs.Machine.{State, reading, done};
-    ghost use Rattle.e57_elements.specs.Builder.{Keeps, IsBuilder, Takes, Admits, Finishes};
+    ghost use Rattle.std.specs.Prelude.{[]};
+    ghost use Rattle.e57_elements.specs.Machine.{State, reading};
+    ghost use Rattle.e57_elements.specs.Builder.{Keeps, IsBuilder, IsFinished, Takes, Admits, Ends};
 
     /// Before the first piece.
     pub fn new(alloc: Global) -> Builder
@@ -141,13 +147,13 @@ impl Builder {
         if self.done {
             return Err(Stop::Nest);
         }
-        if attrs > 64 {
+        if attrs > MAX_ATTRS {
             return Err(Stop::Limit(1));
         }
-        if self.marks.len() >= 64 {
+        if self.marks.len() >= MAX_DEPTH {
             return Err(Stop::Limit(2));
         }
-        if self.nodes.len() >= 1 << 20 {
+        if self.nodes.len() >= MAX_NODES {
             return Err(Stop::Limit(3));
         }
         Ok(())
@@ -227,16 +233,18 @@ impl Builder {
         Ok(())
     }
 
-    /// The tree, where the root has ended. Takes no memory.
-    pub fn finish(self) -> Option<RawTree>
-        requires sound { IsBuilder self }
-        requires lawful { (tree : Element) → Keeps self (done tree) → IsLawful tree }
-        ensures { (state : State) → Keeps self state → Finishes state result }
+    /// The tree, where no piece is spelled at this byte because the text ends there. Takes no memory.
+    pub fn finish(self, at_end: bool, byte: u64) -> Result<RawTree, TextFault>
+        requires { IsFinished self }
+        ensures { (state : State) → Keeps self state → Ends state at_end byte result }
     {
         let Builder { nodes, done, .. } = self;
-        if !done {
-            return None;
+        if !at_end {
+            return Err(refused(Kind::Piece, byte, 0));
         }
-        Some(RawTree::new(nodes))
+        if !done {
+            return Err(refused(Kind::Nest, byte, 0));
+        }
+        Ok(RawTree::new(nodes))
     }
 }

@@ -8,14 +8,15 @@ ghost use Rattle.e57_elements.specs.Spells.{Spells, Reads};
 ghost use Rattle.e57_elements.specs.Fault.{IsFirstFault, IsReadFault};
 ghost use Rattle.e57_elements.specs.Builder.{ReadsBody, IsBodyFailure};
 
-use crate::builder::{refused, Builder};
+use crate::builder::{Builder, refused};
 use crate::tree::RawTree;
 use e57_base::{Kind, TextFault};
-use e57_pieces::{valid_len, Pieces};
+use e57_pieces::{Pieces, valid_len};
 use std::alloc::Global;
 
 /// Reads the tree that a text spells, of at most 2^26 bytes. Refused: the text's first fault of the kinds `XmlUtf8`,
-/// `Piece`, `Nest` and `TreeLimit`. Time and memory are linear in the text.
+/// `Piece`, `Nest` and `TreeLimit`. Memory is linear in the text, and so is time, but for the search for equal
+/// attribute names in one tag.
 pub fn read_elements(alloc: Global, text: &[u8]) -> Result<RawTree, TextFault>
     requires { length text.now ≤ 2 ^ 26 }
     ensures found { IfOk result (λ nodes. Reads text.now nodes) }
@@ -37,18 +38,13 @@ fn read_pieces(alloc: Global, mut pieces: Pieces<'_>, len: usize) -> Result<RawT
     let mut builder = Builder::new(alloc);
     loop {
         let byte = (len - pieces.len()) as u64;
-        let found = match pieces.next(alloc) {
-            Ok(found) => found,
+        match pieces.next(alloc) {
             Err(_error) => return Err(TextFault::Memory),
-        };
-        let Some(piece) = found else {
-            if !pieces.is_empty() {
-                return Err(refused(Kind::Piece, byte, 0));
-            }
-            return builder.finish().ok_or(refused(Kind::Nest, byte, 0));
-        };
-        if let Err(stop) = builder.take(alloc, piece) {
-            return Err(stop.fault_at(byte));
+            Ok(None) => return builder.finish(pieces.is_empty(), byte),
+            Ok(Some(piece)) => match builder.take(alloc, piece) {
+                Err(stop) => return Err(stop.fault_at(byte)),
+                Ok(()) => {}
+            },
         }
     }
 }
@@ -58,5 +54,4 @@ pub fn one_answer()
     ensures tree { (text : List ℕ) (a b : Element) → Spells text a → Spells text b → a ≡ b }
     ensures fault { (text : List ℕ) (a b : Fault) → IsFirstFault text a → IsFirstFault text b → a ≡ b }
     ensures either { (text : List ℕ) (tree : Element) (fault : Fault) → Spells text tree → IsLawful tree → IsFirstFault text fault → ⊥ }
-{
-}
+{}

@@ -48,6 +48,7 @@ impl RawTree {
     pub fn len(&self) -> usize
         ensures len { result ≡ length self.now }
         ensures nodes { AreNodes self.now }
+        ensures some { 0 < length self.now }
     {
         self.nodes.len()
     }

@@ -1,12 +1,12 @@
 -- Loops of the code, one step at a time.
-use Rattle.std.proofs.Common.{◌≡◌, ℕ, zero, suc, ◌+◌, ◌-◌, ◌*◌, ◌^◌, ◌<◌, ◌≤◌, List, [], ◌∷◌, ◌++◌, length, get_or, take, drop, Bool, Option, Some, None, refl, sym, ap, subst, ◌∙◌, arith, add-one, pow-suc, mul_comm, append_assoc, lit<}
+use Rattle.std.proofs.Common.{◌≡◌, ℕ, suc, ◌+◌, ◌-◌, ◌*◌, ◌^◌, ◌<◌, ◌≤◌, List, [], ◌∷◌, ◌++◌, length, get_or, drop, Bool, Some, None, refl, sym, ap, ◌∙◌, arith, add-one, pow-suc, mul_comm, append_assoc, lit<}
 use Rattle.std.specs.Prelude.{encode_utf8}
 use Rattle.std.specs.Char.{digit_value}
 use Rattle.std.proofs.Math.Nat.{mul-le-mul_left, pow-le-pow_right}
 use Rattle.std.proofs.lemmas.List.{append-nil, drop_more, drop_all}
 use Rattle.e57_pieces.specs.declared.piece.Attr.{Attr}
 use Rattle.e57_pieces.specs.Words.{number_from}
-use Rattle.e57_pieces.specs.Reading.{run, after, reference_at, parts_at, parts_then, attr_at, attrs_at, attrs_then}
+use Rattle.e57_pieces.specs.Reading.{run, after, reference_at, parts_at, attr_at, attrs_at}
 
 -- ---- numbers
 

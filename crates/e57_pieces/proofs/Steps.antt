@@ -1,14 +1,14 @@
 -- What a piece or a declaration that is read at the front of the clean part says of the whole text.
-use Rattle.std.proofs.Common.{◌≡◌, ℕ, ◌+◌, ◌-◌, ◌<◌, ◌≤◌, Bool, true, false, List, [], ◌∷◌, ◌++◌, length, take, drop, Option, Some, None, Result, Ok, Err, MatchResult, inl, inr, refl, sym, ap, subst, ◌∙◌, arith, append_assoc}
+use Rattle.std.proofs.Common.{◌≡◌, ℕ, ◌+◌, ◌-◌, ◌≤◌, true, false, List, ◌++◌, length, take, drop, Some, Result, Ok, Err, MatchResult, inl, inr, refl, sym, ap, subst, ◌∙◌, arith, append_assoc}
 use Rattle.std.specs.Str.{IsUtf8}
 use denote.Ref.{Bor}
 use Rattle.std.proofs.lemmas.List.{take-append-drop, length-append, length-take-le, take_at, drop_at}
 use Rattle.e57_pieces.specs.declared.piece.Piece.{Piece}
 use Rattle.e57_pieces.specs.declared.stop.Stop.{Stop}
 use Rattle.e57_pieces.specs.declared.stop.Stop.TheVariants.{Memory, Absent}
-use Rattle.e57_pieces.specs.Characters.{AreCharacters, IsClean, clean_len}
+use Rattle.e57_pieces.specs.Characters.{IsClean, clean_len}
 use Rattle.e57_pieces.specs.Cut.{NoPiece, IsNext}
-use Rattle.e57_pieces.specs.Start.{after_mark, declares, IsDeclaration, Begins, BeginsNowhere}
+use Rattle.e57_pieces.specs.Start.{after_mark, declares, Begins}
 use Rattle.e57_pieces.specs.Reading.{piece_at, declaration_at, IsCleanAt}
 use Rattle.e57_pieces.specs.Gives.{Stops, StopsNext, DeclaredBefore, StopsDeclaration, StopsStart}
 use Rattle.e57_pieces.specs.Laws.Characters.{IsUtf8-after, IsClean-clean_len, clean_len_le}

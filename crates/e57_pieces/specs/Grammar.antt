@@ -1,5 +1,5 @@
 -- The grammar of the pieces: which bytes spell which piece. References are replaced in the piece.
-use Rattle.std.specs.Prelude.{◌≡◌, ◌≢◌, ℕ, ◌<◌, ◌≤◌, Bool, true, false, ◌⊎◌, ◌&&◌, not, List, [], ◌∷◌, ◌++◌, length, encode_utf8, codes}
+use Rattle.std.specs.Prelude.{◌≡◌, ◌≢◌, ℕ, ◌<◌, ◌≤◌, Bool, true, ◌⊎◌, ◌&&◌, not, List, [], ◌∷◌, ◌++◌, length, encode_utf8, codes}
 use Rattle.std.specs.List.{AllByRecursion, flat_map, list_any}
 use Rattle.std.specs.Str.{bytes_eq}
 use Rattle.e57_pieces.specs.declared.piece.Attr.{Attr}

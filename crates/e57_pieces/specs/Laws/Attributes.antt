@@ -1,17 +1,16 @@
 -- Values, attributes and what stands in a tag after its name: what is read is spelled so, and what is spelled so is read.
-use Rattle.std.proofs.Common.{◌≡◌, ◌≢◌, ℕ, zero, suc, ◌+◌, ◌<◌, ◌≤◌, Bool, true, false, cond, eqb, ltb, leb, ◌||◌, ◌&&◌, not, List, [], ◌∷◌, ◌++◌, length, ◌⊎◌, inl, inr, Option, Some, None, refl, sym, ap, subst, ◌∙◌, arith, append_assoc}
+use Rattle.std.proofs.Common.{◌≡◌, ℕ, zero, suc, ◌<◌, ◌≤◌, Bool, true, false, eqb, ◌||◌, not, List, [], ◌∷◌, ◌++◌, length, ◌⊎◌, inl, inr, Option, Some, None, refl, sym, ap, subst, ◌∙◌, arith, append_assoc}
 use Rattle.std.specs.Prelude.{codes}
-use Rattle.std.specs.Option.{option_or, option_map}
-use Rattle.std.proofs.lemmas.Bool.{eqb-true, eq-eqb, leb-true, le-leb}
-use Rattle.std.proofs.lemmas.List.{length-append, append-nil}
+use Rattle.std.proofs.lemmas.Bool.{eqb-true, eq-eqb}
+use Rattle.std.proofs.lemmas.List.{length-append}
 use Rattle.e57_pieces.specs.declared.piece.Attr.{Attr}
-use Rattle.e57_pieces.specs.Laws.Characters.{or_true, or_false, both_false, and_true, both_true, false_from, between_bounds, not_both}
-use Rattle.e57_pieces.specs.Laws.Fronts.{Took, bind_some, given_some, map_some, or_some, strip_took, strip_again, Stops, run_after, run_each, after_stops, run_stops, run_again, space_took, space_again, no_space, name_took, name_again, no_name}
-use Rattle.e57_pieces.specs.Laws.References.{NoPart, text_took, text_ends, text_again, no_reference}
+use Rattle.e57_pieces.specs.Laws.Characters.{or_true, false_from, not_both}
+use Rattle.e57_pieces.specs.Laws.Fronts.{Took, bind_some, given_some, strip_took, strip_again, Stops, run_after, run_each, run_again, space_took, space_again, no_space, name_took, name_again, no_name}
+use Rattle.e57_pieces.specs.Laws.References.{NoPart, text_took, text_again, no_reference}
 use Rattle.e57_pieces.specs.Words.{is_space, begins_name, goes_on_name, is_plain, Each, IsName}
 use Rattle.e57_pieces.specs.Grammar.{Means, IsAttr, AreAttrs, differ, IsInside}
 use Rattle.e57_pieces.specs.Start.{strip}
-use Rattle.e57_pieces.specs.Reading.{◌>>=◌, given, run, after, name_at, space_at, text_at, quote_at, value_at, attr_at, attrs_then, attrs_at, inside_at}
+use Rattle.e57_pieces.specs.Reading.{◌>>=◌, run, after, name_at, space_at, text_at, quote_at, value_at, attr_at, attrs_then, attrs_at, inside_at}
 
 -- ---- which bytes begin which words
 

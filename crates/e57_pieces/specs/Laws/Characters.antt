@@ -1,9 +1,9 @@
 -- Characters in UTF-8: where a text of characters may be cut, and what stands before the first other one.
-use Rattle.std.proofs.Common.{◌≡◌, ◌≢◌, ℕ, zero, suc, ◌+◌, ◌-◌, ◌*◌, ◌/◌, ◌%◌, ◌<◌, ◌≤◌, Bool, true, false, cond, eqb, ltb, leb, ◌||◌, ◌&&◌, not, List, [], ◌∷◌, ◌++◌, length, get_or, take, drop, ◌⊎◌, inl, inr, ⊎_elim, refl, sym, ap, subst, ◌∙◌, arith, append_assoc, lit<}
+use Rattle.std.proofs.Common.{◌≡◌, ◌≢◌, ℕ, suc, ◌+◌, ◌/◌, ◌<◌, ◌≤◌, Bool, true, false, eqb, ltb, leb, ◌||◌, ◌&&◌, not, List, [], ◌∷◌, ◌++◌, length, get_or, take, drop, ◌⊎◌, inl, inr, refl, sym, ap, subst, ◌∙◌, arith, append_assoc}
 use Rattle.std.specs.List.{AllByRecursion}
 use Rattle.std.specs.Str.{IsUtf8}
-use Rattle.std.proofs.lemmas.Bool.{eqb-true, eqb-false, eq-eqb, ltb-true, lt-ltb, ltb-false, leb-true, le-leb, cases_lt}
-use Rattle.std.proofs.lemmas.List.{length-append, append-nil, take_at, drop_at, get_or_at, nil_from_length}
+use Rattle.std.proofs.lemmas.Bool.{eqb-true, eqb-false, ltb-true, lt-ltb, leb-true, le-leb, cases_lt}
+use Rattle.std.proofs.lemmas.List.{length-append, append-nil, take_at, get_or_at, nil_from_length}
 use Rattle.std.proofs.lemmas.Str.{encodes-append, cons_from_encodes, encode_same, IsUtf8-take, IsCharBoundary-before_ascii, length-encode, len_utf8_bounds, encode_ascii}
 use lib.Utf8.{scalar, scalars, encode, encodes, next, low_scalar, scalar_cases}
 use Rattle.e57_pieces.specs.Characters.{between, is_character, AreCharacters, BeginsForbidden, IsClean, is_control, is_noncharacter, forbids, clean_len}

@@ -1,12 +1,9 @@
 -- Words at the front of a text: what is read there is spelled there, and what is spelled there is read.
-use Rattle.std.proofs.Common.{◌≡◌, ◌≢◌, ℕ, zero, suc, ◌+◌, ◌<◌, ◌≤◌, Bool, true, false, cond, eqb, ltb, leb, ◌||◌, ◌&&◌, not, List, [], ◌∷◌, ◌++◌, length, ◌⊎◌, inl, inr, Option, Some, None, refl, sym, ap, subst, ◌∙◌, arith, append_assoc}
-use Rattle.std.specs.List.{AllByRecursion}
+use Rattle.std.proofs.Common.{◌≡◌, ℕ, suc, ◌<◌, ◌≤◌, Bool, true, false, eqb, List, [], ◌∷◌, ◌++◌, length, ◌⊎◌, inl, inr, Option, Some, None, refl, sym, ap, subst, ◌∙◌, arith}
 use Rattle.std.specs.Option.{option_or, option_map}
-use Rattle.std.proofs.lemmas.Bool.{eqb-true, eqb-false, eq-eqb, ltb-true, lt-ltb, leb-true, le-leb}
-use Rattle.std.proofs.lemmas.List.{length-append}
-use Rattle.e57_pieces.specs.Laws.Characters.{or_true, or_left, or_right, or_false, both_false, and_true, not_both, false_from, tested, between_bounds}
-use Rattle.e57_pieces.specs.Characters.{between}
-use Rattle.e57_pieces.specs.Words.{is_space, begins_name, goes_on_name, Each, IsName, Absent}
+use Rattle.std.proofs.lemmas.Bool.{eqb-true, eq-eqb}
+use Rattle.e57_pieces.specs.Laws.Characters.{tested}
+use Rattle.e57_pieces.specs.Words.{is_space, begins_name, goes_on_name, Each, IsName}
 use Rattle.e57_pieces.specs.Start.{strip}
 use Rattle.e57_pieces.specs.Reading.{◌>>=◌, given, run, after, cut_at, name_at, space_at}
 

@@ -1,21 +1,21 @@
 -- Pieces: what is read is spelled so, and what is spelled so is read.
-use Rattle.std.proofs.Common.{◌≡◌, ◌≢◌, ℕ, zero, suc, ◌+◌, ◌<◌, ◌≤◌, Bool, true, false, cond, eqb, ltb, leb, ◌||◌, ◌&&◌, not, List, [], ◌∷◌, ◌++◌, length, ◌⊎◌, inl, inr, Option, Some, None, refl, sym, ap, subst, ◌∙◌, arith, append_assoc}
+use Rattle.std.proofs.Common.{◌≡◌, ◌≢◌, ℕ, suc, ◌<◌, ◌≤◌, true, false, leb, List, [], ◌∷◌, ◌++◌, length, ◌⊎◌, inl, inr, Some, None, refl, sym, ap, subst, ◌∙◌, arith, append_assoc}
 use Rattle.std.specs.Prelude.{codes}
 use Rattle.std.specs.List.{AllByRecursion, flat_map}
 use Rattle.std.specs.Option.{option_or, option_map}
-use Rattle.std.proofs.lemmas.Bool.{eqb-true, eq-eqb, leb-true, le-leb, cases_lt}
-use Rattle.std.proofs.lemmas.List.{length-append, append-nil, nil_from_length}
+use Rattle.std.proofs.lemmas.Bool.{leb-true, le-leb, cases_lt}
+use Rattle.std.proofs.lemmas.List.{length-append, nil_from_length}
 use Rattle.e57_pieces.specs.declared.piece.Attr.{Attr}
 use Rattle.e57_pieces.specs.declared.piece.Piece.{Piece}
 use Rattle.e57_pieces.specs.declared.piece.Piece.TheVariants.{Start, Empty, End, Comment, CData, Text}
-use Rattle.e57_pieces.specs.Laws.Characters.{or_false, false_from, not_both, eqb-from_ne}
-use Rattle.e57_pieces.specs.Laws.Fronts.{Took, bind_some, given_some, map_some, or_some, or_none, some_none, strip_took, strip_again, Stops, run_after, run_each, run_again, name_took, name_again, cut_took, cut_first, cut_again}
+use Rattle.e57_pieces.specs.Laws.Characters.{false_from, not_both, eqb-from_ne}
+use Rattle.e57_pieces.specs.Laws.Fronts.{bind_some, given_some, map_some, or_some, or_none, some_none, strip_took, strip_again, Stops, run_after, run_each, run_again, name_took, name_again, cut_took, cut_first, cut_again}
 use Rattle.e57_pieces.specs.Laws.References.{NoPart, text_took, text_ends, text_again, parts_none, no_reference, reference_again, reference_begins}
 use Rattle.e57_pieces.specs.Laws.Attributes.{space_goes_on_none, space_stops_name, inside_took, inside_again}
-use Rattle.e57_pieces.specs.Words.{is_space, begins_name, goes_on_name, is_plain, Each, IsName, Absent}
-use Rattle.e57_pieces.specs.Grammar.{IsPart, Means, IsAttr, AreAttrs, IsInside, IsTag, IsEndTag, IsComment, IsCData, IsRun, Spelled}
+use Rattle.e57_pieces.specs.Words.{is_space, begins_name, goes_on_name, is_plain, Each, Absent}
+use Rattle.e57_pieces.specs.Grammar.{IsPart, IsAttr, AreAttrs, IsTag, IsEndTag, IsComment, IsCData, IsRun, Spelled}
 use Rattle.e57_pieces.specs.Start.{strip}
-use Rattle.e57_pieces.specs.Reading.{◌>>=◌, given, run, after, cut_at, name_at, text_at, inside_at, tag_at, end_at, comment_at, cdata_at, run_at, piece_at, reference_at}
+use Rattle.e57_pieces.specs.Reading.{◌>>=◌, run, after, cut_at, name_at, text_at, inside_at, tag_at, end_at, comment_at, cdata_at, run_at, piece_at, reference_at}
 
 -- a run ends where no part begins
 abbrev pub RunEnds : Piece → List ℕ → Type 0

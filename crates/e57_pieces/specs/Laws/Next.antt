@@ -1,5 +1,5 @@
 -- The next piece: the relation and the reading function are one.
-use Rattle.std.proofs.Common.{◌≡◌, ◌≢◌, ℕ, zero, suc, ◌+◌, ◌<◌, ◌≤◌, Bool, true, false, eqb, ◌||◌, not, List, [], ◌∷◌, ◌++◌, length, take, drop, ◌⊎◌, inl, inr, Option, Some, None, refl, sym, ap, subst, ◌∙◌, arith, append_assoc}
+use Rattle.std.proofs.Common.{◌≡◌, ℕ, ◌<◌, true, false, eqb, ◌||◌, List, [], ◌∷◌, ◌++◌, length, ◌⊎◌, inl, inr, Option, Some, None, refl, sym, ap, subst, ◌∙◌, arith, append_assoc}
 use Rattle.std.specs.Prelude.{codes}
 use Rattle.std.specs.Option.{option_map}
 use Rattle.std.specs.Str.{IsUtf8}
@@ -10,13 +10,13 @@ use Rattle.std.proofs.lemmas.Str.{encode_ascii}
 use Rattle.e57_pieces.specs.declared.piece.Attr.{Attr}
 use Rattle.e57_pieces.specs.declared.piece.Piece.{Piece}
 use Rattle.e57_pieces.specs.declared.piece.Piece.TheVariants.{Start, Empty, End, Comment, CData, Text}
-use Rattle.e57_pieces.specs.Laws.Characters.{or_true, or_false, tested, AreCharacters-append, AreCharacters-nil, AreCharacters-parts, AreCharacters-after, AreCharacters-before, IsUtf8-AreCharacters, IsUtf8-after, in_front, IsClean-clean_len}
-use Rattle.e57_pieces.specs.Laws.Fronts.{map_some, some_none}
+use Rattle.e57_pieces.specs.Laws.Characters.{or_true, tested, AreCharacters-append, AreCharacters-nil, AreCharacters-parts, AreCharacters-after, AreCharacters-before, IsUtf8-AreCharacters, IsUtf8-after, in_front, IsClean-clean_len}
+use Rattle.e57_pieces.specs.Laws.Fronts.{map_some}
 use Rattle.e57_pieces.specs.Laws.References.{NoPart}
-use Rattle.e57_pieces.specs.Laws.Markup.{RunEnds, TookPiece, piece_took, TookRun, run_found, run_none, run_begins, piece_again, piece_none}
+use Rattle.e57_pieces.specs.Laws.Markup.{RunEnds, piece_took, run_found, run_none, run_begins, piece_again, piece_none}
 use Rattle.e57_pieces.specs.Characters.{is_character, AreCharacters, IsClean, clean_len}
 use Rattle.e57_pieces.specs.Words.{is_plain}
-use Rattle.e57_pieces.specs.Grammar.{IsTag, IsInside, IsEndTag, IsComment, IsCData, IsRun, Spelled, IsPiece}
+use Rattle.e57_pieces.specs.Grammar.{IsTag, IsInside, IsEndTag, IsComment, IsCData, Spelled}
 use Rattle.e57_pieces.specs.Cut.{NoPiece, NoRun, IsWhole, IsNext}
 use Rattle.e57_pieces.specs.Reading.{run_at, piece_at, clean, unclean, next_at}
 

@@ -1,15 +1,15 @@
 -- Where the pieces begin: the relation and the reading function are one.
-use Rattle.std.proofs.Common.{◌≡◌, ◌≢◌, ℕ, zero, suc, ◌+◌, ◌<◌, ◌≤◌, Bool, true, false, cond, eqb, ◌||◌, List, [], ◌∷◌, ◌++◌, length, take, drop, ◌⊎◌, inl, inr, Option, Some, None, refl, sym, ap, subst, ◌∙◌, arith, append_assoc}
+use Rattle.std.proofs.Common.{◌≡◌, ℕ, ◌≤◌, Bool, true, false, List, [], ◌∷◌, ◌++◌, length, ◌⊎◌, inl, inr, Option, Some, None, refl, sym, ap, subst, ◌∙◌, arith, append_assoc}
 use Rattle.std.specs.Prelude.{codes}
 use Rattle.std.specs.Option.{option_map}
 use Rattle.std.specs.Str.{IsUtf8}
 use Rattle.std.proofs.lemmas.List.{take-append-drop}
 use lib.Utf8.{encode}
 use Rattle.e57_pieces.specs.declared.piece.Attr.{Attr}
-use Rattle.e57_pieces.specs.Laws.Characters.{AreCharacters-after, IsUtf8-after, in_front, IsClean-clean_len}
-use Rattle.e57_pieces.specs.Laws.Fronts.{Took, bind_some, given_some, map_some, some_none, strip_took, strip_again, Stops}
+use Rattle.e57_pieces.specs.Laws.Characters.{IsUtf8-after, in_front, IsClean-clean_len}
+use Rattle.e57_pieces.specs.Laws.Fronts.{bind_some, given_some, map_some, some_none, strip_took, strip_again}
 use Rattle.e57_pieces.specs.Laws.Attributes.{inside_took, inside_again}
-use Rattle.e57_pieces.specs.Laws.Next.{EndsAngle, after_front, mark_angle, inside_ends, parts_at_angle}
+use Rattle.e57_pieces.specs.Laws.Next.{after_front, mark_angle, inside_ends, parts_at_angle}
 use Rattle.e57_pieces.specs.Characters.{is_character, AreCharacters, IsClean, clean_len}
 use Rattle.e57_pieces.specs.Words.{is_space, begins_name}
 use Rattle.e57_pieces.specs.Grammar.{IsInside}

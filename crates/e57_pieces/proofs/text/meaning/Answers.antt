@@ -1,4 +1,4 @@
-use Rattle.std.proofs.Common.{◌≡◌, None, Some, length, ◌-◌}
+use Rattle.std.proofs.Common.{◌≡◌, None, Some, length}
 use Rattle.e57_pieces.specs.Words.{is_plain}
 use Rattle.e57_pieces.specs.Reading.{after, reference_at, parts_at}
 use Rattle.e57_pieces.proofs.Loops.{parts_go_on, parts_end, parts_done}

@@ -1,4 +1,4 @@
-use Rattle.std.proofs.Common.{Some, None, length}
+use Rattle.std.proofs.Common.{Some, None}
 use Rattle.std.proofs.lemmas.List.{drop-drop}
 use Rattle.e57_pieces.proofs.Fronts.{cut_is}
 use Rattle.e57_pieces.proofs.words.cut.Goals as goal

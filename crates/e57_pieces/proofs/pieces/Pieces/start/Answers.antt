@@ -1,4 +1,3 @@
-use Rattle.std.proofs.Common.{arith}
 use Rattle.e57_pieces.specs.Laws.Start.{after_mark_le, body_is}
 use Rattle.e57_pieces.proofs.pieces.Pieces.start.Goals as goal
 
