@@ -5,4 +5,5 @@ mod Limits
 mod Builds
 mod Writing
 mod Elements
+mod Escapes
 mod Spelled

@@ -8,4 +8,4 @@ mod write;
 
 pub use e57_pieces::{Attr, Attrs};
 pub use tree::{RawNode, RawTree};
-pub use write::write_elements;
+pub use write::{spelling_spells, write_elements};

@@ -27,6 +27,11 @@ pub fn write_elements(alloc: Global, tree: &RawTree) -> Result<Vec<u8>, AllocErr
     Ok(out)
 }
 
+/// A law, which does nothing: the written spelling of a lawful tree spells that tree.
+pub fn spelling_spells()
+    ensures { (e : Element) → IsLawful e → Spells (spelling e) e }
+{}
+
 /// Writes the element at a place. It calls itself for the children, so at most to the depth of the tree, which is 64.
 fn write_element(out: &mut Vec<u8>, tree: &RawTree, place: usize) -> Result<(), AllocError>
     requires stands { StandsAt tree.now place }
