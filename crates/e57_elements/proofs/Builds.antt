@@ -1,7 +1,8 @@
 -- What the builder does is what the machine does.
-use Rattle.std.proofs.Common.{◌≡◌, ℕ, suc, ◌+◌, ◌-◌, ◌*◌, ◌^◌, ◌<◌, ◌≤◌, Bool, true, false, cond, ◌&&◌, ltb, eqb, List, [], ◌∷◌, ◌++◌, length, get_or, set, Option, Some, None, Result, Ok, Err, refl, sym, ap, subst, ◌∙◌, append_assoc, length-append, arith}
+use Rattle.std.proofs.Common.{◌≡◌, ℕ, suc, ◌+◌, ◌-◌, ◌*◌, ◌^◌, ◌<◌, ◌≤◌, Bool, true, false, cond, not, ◌&&◌, ltb, eqb, List, [], ◌∷◌, ◌++◌, length, get_or, set, Option, Some, None, Result, Ok, Err, refl, sym, ap, subst, ◌∙◌, append_assoc, length-append, arith}
 use Rattle.std.proofs.Math.Seq.{set-append_seam, get_or-append_seam}
 use Rattle.std.specs.Str.{bytes_eq}
+use Rattle.std.specs.Result.{IsErrAnd}
 use Rattle.e57_pieces.specs.declared.piece.Attr.{Attr}
 use Rattle.e57_pieces.specs.declared.piece.Piece.{Piece}
 use Rattle.e57_pieces.specs.declared.piece.Piece.TheVariants.{Start, Empty, End, Comment, CData, Text}
@@ -70,11 +71,11 @@ empty_refused (done e) name attrs Nest new h = refl
 empty_refused (done e) name attrs (Limit b) new h = absurd h
 empty_refused (done e) name attrs Memory new h = absurd h
 
-pub start_takes : (s : State) (b new : Builder) (name : List ℕ) (attrs : List Attr) → Keeps b s → Admits {T = Unit {0}} s (length attrs) (Ok tt)
+start_opens : (s : State) (b new : Builder) (name : List ℕ) (attrs : List Attr) → Keeps b s → Admits {T = Unit {0}} s (length attrs) (Ok tt)
     → new.nodes.items ≡ b.nodes.items ++ (record { name = name; attrs = attrs; text = []; size = 0 }) ∷ []
     → new.marks.items ≡ b.marks.items ++ (record { place = length b.nodes.items; text = [] }) ∷ []
     → new.done ≡ b.done → Takes {T = Unit {0}} s (Start name attrs) (Ok tt) new
-start_takes (reading opens) b new name attrs h a nodes marks is_open =
+start_opens (reading opens) b new name attrs h a nodes marks is_open =
     let w = limit_within (length attrs) (length opens + 1) (length (nodes_of opens) + 1) a in
     (reading (begin name attrs ∷ opens), refl, a, record {
       nodes = nodes ∙ ap (λ ns. ns ++ (open_node (begin name attrs)) ∷ []) h.nodes;
@@ -82,7 +83,18 @@ start_takes (reading opens) b new name attrs h a nodes marks is_open =
       done = is_open ∙ h.done;
       few = (let l = length-append (nodes_of opens) (open_node (begin name attrs) ∷ []) in let p = w.place in omega arith);
     })
-start_takes (done e) b new name attrs h a nodes marks is_open = absurd a
+start_opens (done e) b new name attrs h a nodes marks is_open = absurd a
+
+pub start_takes : (s : State) (b new : Builder) (name : List ℕ) (attrs : List Attr) (n place : ℕ) (first text : List ℕ) → Keeps b s → Admits {T = Unit {0}} s n (Ok tt)
+    → n ≡ length attrs → place ≡ length b.nodes.items → first ≡ [] → text ≡ []
+    → new.nodes.items ≡ b.nodes.items ++ (record { name = name; attrs = attrs; text = first; size = 0 }) ∷ []
+    → new.marks.items ≡ b.marks.items ++ (record { place = place; text = text }) ∷ []
+    → new.done ≡ b.done → Takes {T = Unit {0}} s (Start name attrs) (Ok tt) new
+start_takes s b new name attrs n place first text h a is_n is_place none_first none_text nodes marks is_open =
+    start_opens s b new name attrs h (subst (λ k. Admits {T = Unit {0}} s k (Ok tt)) is_n a)
+      (nodes ∙ ap (λ t. b.nodes.items ++ (record { name = name; attrs = attrs; text = t; size = 0 }) ∷ []) none_first)
+      (marks ∙ ap (λ k. b.marks.items ++ (record { place = k; text = text }) ∷ []) is_place ∙ ap (λ t. b.marks.items ++ (record { place = length b.nodes.items; text = t }) ∷ []) none_text)
+      is_open
 
 -- an element is put
 put_keeps : (e : Element) (opens : List Open) (new : Builder) → new.nodes.items ≡ nodes_of opens ++ preorder e → new.marks.items ≡ marks_of opens
@@ -95,15 +107,36 @@ put_keeps e opens new nodes marks is_done_now few =
       few = subst (λ ns. length ns ≤ 2 ^ 20) (sym (put_nodes e opens)) few;
     }
 
-pub empty_takes : (s : State) (b new : Builder) (name : List ℕ) (attrs : List Attr) → Keeps b s → Admits {T = Unit {0}} s (length attrs) (Ok tt)
+empty_puts : (s : State) (b new : Builder) (name : List ℕ) (attrs : List Attr) → Keeps b s → Admits {T = Unit {0}} s (length attrs) (Ok tt)
     → new.nodes.items ≡ b.nodes.items ++ (record { name = name; attrs = attrs; text = []; size = 1 }) ∷ []
     → new.marks.items ≡ b.marks.items → new.done ≡ eqb (length new.marks.items) 0 → Takes {T = Unit {0}} s (Empty name attrs) (Ok tt) new
-empty_takes (reading opens) b new name attrs h a nodes marks is_done_now =
+empty_puts (reading opens) b new name attrs h a nodes marks is_done_now =
     let w = limit_within (length attrs) (length opens + 1) (length (nodes_of opens) + 1) a in
     (put (element name attrs [] none) opens, refl, a,
     put_keeps (element name attrs [] none) opens new (nodes ∙ ap (λ ns. ns ++ preorder (element name attrs [] none)) h.nodes) (marks ∙ h.marks) is_done_now
       (let l = length-append (nodes_of opens) (preorder (element name attrs [] none)) in let p = w.place in omega arith))
-empty_takes (done e) b new name attrs h a nodes marks is_done_now = absurd a
+empty_puts (done e) b new name attrs h a nodes marks is_done_now = absurd a
+
+pub empty_takes : (s : State) (b new : Builder) (name : List ℕ) (attrs : List Attr) (n : ℕ) (first : List ℕ) → Keeps b s → Admits {T = Unit {0}} s n (Ok tt)
+    → n ≡ length attrs → first ≡ []
+    → new.nodes.items ≡ b.nodes.items ++ (record { name = name; attrs = attrs; text = first; size = 1 }) ∷ []
+    → new.marks.items ≡ b.marks.items → new.done ≡ eqb (length new.marks.items) 0 → Takes {T = Unit {0}} s (Empty name attrs) (Ok tt) new
+empty_takes s b new name attrs n first h a is_n none_first nodes marks is_done_now =
+    empty_puts s b new name attrs h (subst (λ k. Admits {T = Unit {0}} s k (Ok tt)) is_n a)
+      (nodes ∙ ap (λ t. b.nodes.items ++ (record { name = name; attrs = attrs; text = t; size = 1 }) ∷ []) none_first) marks is_done_now
+
+-- what `!=` said of two names
+pub same_names : (r : Bool) (x y a b : List ℕ) → r ≡ not (bytes_eq x y) → r ≡ false → x ≡ a → y ≡ b → bytes_eq a b ≡ true
+same_names r x y a b e f p q = not_false (bytes_eq a b) (ap (λ z. not (bytes_eq z b)) (sym p) ∙ ap (λ z. not (bytes_eq x z)) (sym q) ∙ sym e ∙ f) where
+  not_false : (t : Bool) → not t ≡ false → t ≡ true
+  not_false true h = refl
+  not_false false h = sym h
+
+pub other_names : (r : Bool) (x y a b : List ℕ) → r ≡ not (bytes_eq x y) → r ≡ true → x ≡ a → y ≡ b → bytes_eq a b ≡ false
+other_names r x y a b e f p q = not_true (bytes_eq a b) (ap (λ z. not (bytes_eq z b)) (sym p) ∙ ap (λ z. not (bytes_eq x z)) (sym q) ∙ sym e ∙ f) where
+  not_true : (t : Bool) → not t ≡ true → t ≡ false
+  not_true true h = sym h
+  not_true false h = refl
 
 -- the last mark is that of the innermost open element
 pub end_within : (s : State) (b : Builder) (rest : List Mark) (mark : Mark) → Keeps b s → b.marks.items ≡ rest ++ mark ∷ [] → mark.place < length b.nodes.items
@@ -210,3 +243,9 @@ run_refused (done d) b new text h e p = ap (λ t. cond t (Some (done d)) None) p
 pub comment_takes : (s : State) (b : Builder) → Keeps b s → Takes {T = Unit {0}} s Comment (Ok tt) b
 comment_takes (reading opens) b h = (reading opens, refl, refl, h)
 comment_takes (done e) b h = (done e, refl, refl, h)
+
+-- ---- what `?` hands on
+
+pub refusal_on : (s : State) (piece : Piece) (r : Result (Unit {0}) Stop) (stop : Stop) (new : Builder) → IsErrAnd r (λ e. e ≡ stop) → Takes {T = Unit {0}} s piece (Err stop) new → Takes s piece r new
+refusal_on s piece (Ok x) stop new h t = absurd h
+refusal_on s piece (Err e) stop new h t = subst (λ x. Takes {T = Unit {0}} s piece (Err x) new) (sym h) t

@@ -7,3 +7,9 @@ mod Writing
 mod Elements
 mod Escapes
 mod Spelled
+mod Steps
+mod Counts
+mod Characters
+mod Lawful
+mod Reached
+mod OneAnswer

@@ -1,10 +1,12 @@
 //! The tree of the pieces that are read so far.
 
-ghost use Rattle.std.specs.Prelude.{◌≡◌, ◌^◌, ◌<◌, ◌≤◌, ◌∷◌, ◌++◌, [], List, length, OnOk};
+ghost use Rattle.std.specs.Prelude.{◌≡◌, ◌^◌, ◌<◌, ◌≤◌, ◌∷◌, ◌++◌, List, length};
+ghost use Rattle.e57_base.specs.declared.fault.TextFault.TheVariants.{Refused};
+ghost use Rattle.e57_elements.specs.Fault.{fault_at};
 
 use crate::text::{is_only_space, TextOut};
-use crate::tree::RawNode;
-use e57_base::Octets;
+use crate::tree::{RawNode, RawTree};
+use e57_base::{Fault, Kind, Octets, TextFault};
 use e57_pieces::{Attrs, Piece};
 use std::alloc::{AllocError, AllocFailed, Global};
 
@@ -48,6 +50,28 @@ pub enum Stop {
     Memory,
 }
 
+impl Stop {
+    ghost use Rattle.e57_elements.specs.Builder.{stop_fault};
+
+    /// The fault of a piece at this byte.
+    pub fn fault_at(self, byte: u64) -> TextFault
+        ensures { result ≡ stop_fault self byte }
+    {
+        match self {
+            Stop::Nest => refused(Kind::Nest, byte, 0),
+            Stop::Limit(which) => refused(Kind::TreeLimit, byte, which),
+            Stop::Memory => TextFault::Memory,
+        }
+    }
+}
+
+/// A text that is refused with this fault.
+pub fn refused(kind: Kind, a: u64, b: u64) -> TextFault
+    ensures { result ≡ Refused (fault_at kind a b) }
+{
+    TextFault::Refused(Fault { kind, a, b })
+}
+
 impl From<AllocError> for Stop {
     ghost use Rattle.e57_elements.specs.declared.builder.Stop.TheVariants.{Memory};
 
@@ -79,8 +103,9 @@ pub struct Builder {
 
 impl Builder {
     ghost use Rattle.e57_pieces.specs.declared.piece.Piece.TheVariants.{Start, Empty, End, Comment, CData, Text};
+    ghost use Rattle.std.specs.Prelude.{[]};
     ghost use Rattle.e57_elements.specs.Machine.{State, reading};
-    ghost use Rattle.e57_elements.specs.Builder.{Keeps, IsBuilder, Takes, Admits};
+    ghost use Rattle.e57_elements.specs.Builder.{Keeps, IsBuilder, IsFinished, Takes, Admits, Ends};
 
     /// Before the first piece.
     pub fn new(alloc: Global) -> Builder
@@ -131,9 +156,7 @@ impl Builder {
     fn start(&mut self, alloc: Global, name: Octets, attrs: Attrs) -> Result<(), Stop>
         ensures { (state : State) → Keeps self.old state → Takes state (Start name attrs) result self.new }
     {
-        if let Err(stop) = self.admit(attrs.len()) {
-            return Err(stop);
-        }
+        self.admit(attrs.len())?;
         let place = self.nodes.len();
         self.nodes.push(RawNode {
             name,
@@ -152,9 +175,7 @@ impl Builder {
     fn empty(&mut self, alloc: Global, name: Octets, attrs: Attrs) -> Result<(), Stop>
         ensures { (state : State) → Keeps self.old state → Takes state (Empty name attrs) result self.new }
     {
-        if let Err(stop) = self.admit(attrs.len()) {
-            return Err(stop);
-        }
+        self.admit(attrs.len())?;
         self.nodes.push(RawNode {
             name,
             attrs,
@@ -203,5 +224,20 @@ impl Builder {
             return Err(Stop::Nest);
         }
         Ok(())
+    }
+
+    /// The tree, where no piece is spelled at this byte because the text ends there. Takes no memory.
+    pub fn finish(self, at_end: bool, byte: u64) -> Result<RawTree, TextFault>
+        requires { IsFinished self }
+        ensures { (state : State) → Keeps self state → Ends state at_end byte result }
+    {
+        let Builder { nodes, done, .. } = self;
+        if !at_end {
+            return Err(refused(Kind::Piece, byte, 0));
+        }
+        if !done {
+            return Err(refused(Kind::Nest, byte, 0));
+        }
+        Ok(RawTree::new(nodes))
     }
 }

@@ -2,10 +2,12 @@
 #![tactic(auto)]
 
 mod builder;
+mod read;
 mod text;
 mod tree;
 mod write;
 
 pub use e57_pieces::{Attr, Attrs};
+pub use read::{one_answer, read_elements};
 pub use tree::{RawNode, RawTree};
 pub use write::{spelling_spells, write_elements};

@@ -16,3 +16,6 @@ pub use characters::valid_len;
 pub use laws::one_cut;
 pub use piece::{Attr, Attrs, Piece};
 pub use pieces::Pieces;
+
+#[cfg(test)]
+mod tests;
