@@ -13,3 +13,4 @@ mod Characters
 mod Lawful
 mod Reached
 mod OneAnswer
+mod Makes

@@ -5,9 +5,11 @@ mod builder;
 mod read;
 mod text;
 mod tree;
+mod tree_out;
 mod write;
 
 pub use e57_pieces::{Attr, Attrs};
 pub use read::{one_answer, read_elements};
 pub use tree::{RawNode, RawTree};
+pub use tree_out::TreeOut;
 pub use write::{spelling_spells, write_elements};
