@@ -14,3 +14,4 @@ mod Lawful
 mod Reached
 mod OneAnswer
 mod Makes
+mod Sets
