@@ -15,3 +15,4 @@ mod Reached
 mod OneAnswer
 mod Makes
 mod Sets
+mod Sample

@@ -7,6 +7,8 @@ mod text;
 mod tree;
 mod tree_out;
 mod write;
+#[cfg(test)]
+mod write_tests;
 
 pub use e57_pieces::{Attr, Attrs};
 pub use read::{one_answer, read_elements};
