@@ -1,23 +1,24 @@
 -- What the builder does is what the machine does.
-use Rattle.std.proofs.Common.{◌≡◌, ℕ, suc, ◌+◌, ◌-◌, ◌*◌, ◌^◌, ◌<◌, ◌≤◌, Bool, true, false, cond, not, ◌&&◌, ltb, eqb, List, [], ◌∷◌, ◌++◌, length, get_or, set, Option, Some, None, Result, Ok, Err, refl, sym, ap, subst, ◌∙◌, append_assoc, length-append, arith}
+use Rattle.std.proofs.Common.{◌≡◌, ℕ, ◌+◌, ◌-◌, ◌^◌, ◌<◌, ◌≤◌, Bool, true, false, cond, not, ◌&&◌, ltb, eqb, List, [], ◌∷◌, ◌++◌, length, get_or, set, Some, None, Result, Ok, Err, refl, sym, ap, subst, ◌∙◌, length-append, arith}
 use Rattle.std.proofs.Math.Seq.{set-append_seam, get_or-append_seam}
 use Rattle.std.specs.Str.{bytes_eq}
 use Rattle.std.specs.Result.{IsErrAnd}
 use Rattle.e57_pieces.specs.declared.piece.Attr.{Attr}
 use Rattle.e57_pieces.specs.declared.piece.Piece.{Piece}
-use Rattle.e57_pieces.specs.declared.piece.Piece.TheVariants.{Start, Empty, End, Comment, CData, Text}
+use Rattle.e57_pieces.specs.declared.piece.Piece.TheVariants.{Start, Empty, End, CData}
 use Rattle.e57_elements.specs.declared.tree.RawNode.{RawNode}
 use Rattle.e57_elements.specs.declared.builder.Mark.{Mark}
 use Rattle.e57_elements.specs.declared.builder.Builder.{Builder}
 use Rattle.e57_elements.specs.declared.builder.Stop.{Stop}
 use Rattle.e57_elements.specs.declared.builder.Stop.TheVariants.{Nest, Limit, Memory}
-use Rattle.e57_elements.specs.Tree.{Element, element, Elements, none, more, preorder, preorder_all}
-use Rattle.e57_elements.specs.Nested.{only_space, kept}
+use Rattle.e57_elements.specs.Tree.{Element, element, none, preorder, preorder_all}
+use Rattle.e57_elements.specs.Nested.{only_space}
 use Rattle.e57_elements.specs.Fault.{limit}
-use Rattle.e57_elements.specs.Machine.{Open, State, reading, done, join, begin, with_text, with_child, ended, put, end_tag, inner_text, outer_text, text_run, step, open_node, nodes_of, state_nodes, state_depth, passes_in}
-use Rattle.e57_elements.specs.Builder.{Keeps, IsBuilder, Takes, Admits, mark_of, marks_of, state_marks, is_done, ended_node}
-use Rattle.e57_elements.proofs.Limits.{limit_1, limit_2, limit_3, limit_none, Within, limit_within}
-use Rattle.e57_elements.proofs.Nodes.{put_nodes, put_marks, put_done, length-marks_of, ended_is, snoc_same, snoc_some}
+use Rattle.e57_elements.specs.Machine.{Open, State, reading, done, begin, with_text, ended, put, open_node, nodes_of}
+use Rattle.e57_elements.specs.Builder.{Keeps, Takes, Admits, mark_of, marks_of, ended_node}
+use Rattle.e57_elements.proofs.Limits.{limit_none, limit_within}
+use Rattle.e57_elements.proofs.Nodes.{put_nodes, put_marks, put_done, length-marks_of, ended_is}
+use Rattle.e57_elements.proofs.Lists.{snoc_same, snoc_some}
 
 -- ---- the node of an element that ends
 
@@ -37,10 +38,6 @@ end_node nodes before below node read place len text kept_text parts at_place is
 
 -- ---- whether an element may begin
 
-pub admits_done : (s : State) (b : Builder) (n : ℕ) → Keeps b s → b.done ≡ true → Admits {T = Unit {0}} s n (Err Nest)
-admits_done (reading opens) b n h e = let f = h.done in cc
-admits_done (done d) b n h e = tt
-
 pub admits_limit : (s : State) (b : Builder) (n which : ℕ) → Keeps b s → b.done ≡ false
     → ((d p : ℕ) → d ≡ length b.marks.items + 1 → p ≡ length b.nodes.items + 1 → limit n d p ≡ Some which) → Admits {T = Unit {0}} s n (Err (Limit which))
 admits_limit (reading opens) b n which h e l = l (length opens + 1) (length (nodes_of opens) + 1) (let f = ap length h.marks in let g = length-marks_of opens in omega arith) (let f = ap length h.nodes in omega arith)
@@ -49,7 +46,7 @@ admits_limit (done d) b n which h e l = let f = h.done in cc
 pub admits_ok : (s : State) (b : Builder) (n : ℕ) → Keeps b s → b.done ≡ false → n ≤ 64 → length b.marks.items < 64 → length b.nodes.items < 2 ^ 20 → Admits {T = Unit {0}} s n (Ok tt)
 admits_ok (reading opens) b n h e f g k =
     limit_none n (length opens + 1) (length (nodes_of opens) + 1) f
-      (let m = ap length h.marks in let l = length-marks_of opens in omega arith) (let m = ap length h.nodes in omega arith)
+    (let m = ap length h.marks in let l = length-marks_of opens in omega arith) (let m = ap length h.nodes in omega arith)
 admits_ok (done d) b n h e f g k = let l = h.done in cc
 
 -- ---- tags
@@ -76,13 +73,17 @@ start_opens : (s : State) (b new : Builder) (name : List ℕ) (attrs : List Attr
     → new.marks.items ≡ b.marks.items ++ (record { place = length b.nodes.items; text = [] }) ∷ []
     → new.done ≡ b.done → Takes {T = Unit {0}} s (Start name attrs) (Ok tt) new
 start_opens (reading opens) b new name attrs h a nodes marks is_open =
-    let w = limit_within (length attrs) (length opens + 1) (length (nodes_of opens) + 1) a in
-    (reading (begin name attrs ∷ opens), refl, a, record {
-      nodes = nodes ∙ ap (λ ns. ns ++ (open_node (begin name attrs)) ∷ []) h.nodes;
-      marks = marks ∙ ap (λ ms. ms ++ (record { place = length b.nodes.items; text = [] }) ∷ []) h.marks ∙ ap (λ ns. marks_of opens ++ (record { place = length ns; text = [] }) ∷ []) h.nodes;
-      done = is_open ∙ h.done;
-      few = (let l = length-append (nodes_of opens) (open_node (begin name attrs) ∷ []) in let p = w.place in omega arith);
-    })
+    let w = limit_within (length attrs) (length opens + 1) (length (nodes_of opens) + 1) a in (
+      reading (begin name attrs ∷ opens),
+      refl,
+      a,
+      record {
+        nodes = nodes ∙ ap (λ ns. ns ++ (open_node (begin name attrs)) ∷ []) h.nodes;
+        marks = marks ∙ ap (λ ms. ms ++ (record { place = length b.nodes.items; text = [] }) ∷ []) h.marks ∙ ap (λ ns. marks_of opens ++ (record { place = length ns; text = [] }) ∷ []) h.nodes;
+        done = is_open ∙ h.done;
+        few = (let l = length-append (nodes_of opens) (open_node (begin name attrs) ∷ []) in let p = w.place in omega arith);
+      },
+    )
 start_opens (done e) b new name attrs h a nodes marks is_open = absurd a
 
 pub start_takes : (s : State) (b new : Builder) (name : List ℕ) (attrs : List Attr) (n place : ℕ) (first text : List ℕ) → Keeps b s → Admits {T = Unit {0}} s n (Ok tt)
@@ -92,9 +93,9 @@ pub start_takes : (s : State) (b new : Builder) (name : List ℕ) (attrs : List 
     → new.done ≡ b.done → Takes {T = Unit {0}} s (Start name attrs) (Ok tt) new
 start_takes s b new name attrs n place first text h a is_n is_place none_first none_text nodes marks is_open =
     start_opens s b new name attrs h (subst (λ k. Admits {T = Unit {0}} s k (Ok tt)) is_n a)
-      (nodes ∙ ap (λ t. b.nodes.items ++ (record { name = name; attrs = attrs; text = t; size = 0 }) ∷ []) none_first)
-      (marks ∙ ap (λ k. b.marks.items ++ (record { place = k; text = text }) ∷ []) is_place ∙ ap (λ t. b.marks.items ++ (record { place = length b.nodes.items; text = t }) ∷ []) none_text)
-      is_open
+    (nodes ∙ ap (λ t. b.nodes.items ++ (record { name = name; attrs = attrs; text = t; size = 0 }) ∷ []) none_first)
+    (marks ∙ ap (λ k. b.marks.items ++ (record { place = k; text = text }) ∷ []) is_place ∙ ap (λ t. b.marks.items ++ (record { place = length b.nodes.items; text = t }) ∷ []) none_text)
+    is_open
 
 -- an element is put
 put_keeps : (e : Element) (opens : List Open) (new : Builder) → new.nodes.items ≡ nodes_of opens ++ preorder e → new.marks.items ≡ marks_of opens
@@ -111,10 +112,13 @@ empty_puts : (s : State) (b new : Builder) (name : List ℕ) (attrs : List Attr)
     → new.nodes.items ≡ b.nodes.items ++ (record { name = name; attrs = attrs; text = []; size = 1 }) ∷ []
     → new.marks.items ≡ b.marks.items → new.done ≡ eqb (length new.marks.items) 0 → Takes {T = Unit {0}} s (Empty name attrs) (Ok tt) new
 empty_puts (reading opens) b new name attrs h a nodes marks is_done_now =
-    let w = limit_within (length attrs) (length opens + 1) (length (nodes_of opens) + 1) a in
-    (put (element name attrs [] none) opens, refl, a,
-    put_keeps (element name attrs [] none) opens new (nodes ∙ ap (λ ns. ns ++ preorder (element name attrs [] none)) h.nodes) (marks ∙ h.marks) is_done_now
-      (let l = length-append (nodes_of opens) (preorder (element name attrs [] none)) in let p = w.place in omega arith))
+    let w = limit_within (length attrs) (length opens + 1) (length (nodes_of opens) + 1) a in (
+      put (element name attrs [] none) opens,
+      refl,
+      a,
+      put_keeps (element name attrs [] none) opens new (nodes ∙ ap (λ ns. ns ++ preorder (element name attrs [] none)) h.nodes) (marks ∙ h.marks) is_done_now
+          (let l = length-append (nodes_of opens) (preorder (element name attrs [] none)) in let p = w.place in omega arith),
+    )
 empty_puts (done e) b new name attrs h a nodes marks is_done_now = absurd a
 
 pub empty_takes : (s : State) (b new : Builder) (name : List ℕ) (attrs : List Attr) (n : ℕ) (first : List ℕ) → Keeps b s → Admits {T = Unit {0}} s n (Ok tt)
@@ -123,7 +127,7 @@ pub empty_takes : (s : State) (b new : Builder) (name : List ℕ) (attrs : List 
     → new.marks.items ≡ b.marks.items → new.done ≡ eqb (length new.marks.items) 0 → Takes {T = Unit {0}} s (Empty name attrs) (Ok tt) new
 empty_takes s b new name attrs n first h a is_n none_first nodes marks is_done_now =
     empty_puts s b new name attrs h (subst (λ k. Admits {T = Unit {0}} s k (Ok tt)) is_n a)
-      (nodes ∙ ap (λ t. b.nodes.items ++ (record { name = name; attrs = attrs; text = t; size = 1 }) ∷ []) none_first) marks is_done_now
+    (nodes ∙ ap (λ t. b.nodes.items ++ (record { name = name; attrs = attrs; text = t; size = 1 }) ∷ []) none_first) marks is_done_now
 
 -- what `!=` said of two names
 pub same_names : (r : Bool) (x y a b : List ℕ) → r ≡ not (bytes_eq x y) → r ≡ false → x ≡ a → y ≡ b → bytes_eq a b ≡ true
@@ -131,12 +135,6 @@ same_names r x y a b e f p q = not_false (bytes_eq a b) (ap (λ z. not (bytes_eq
   not_false : (t : Bool) → not t ≡ false → t ≡ true
   not_false true h = refl
   not_false false h = sym h
-
-pub other_names : (r : Bool) (x y a b : List ℕ) → r ≡ not (bytes_eq x y) → r ≡ true → x ≡ a → y ≡ b → bytes_eq a b ≡ false
-other_names r x y a b e f p q = not_true (bytes_eq a b) (ap (λ z. not (bytes_eq z b)) (sym p) ∙ ap (λ z. not (bytes_eq x z)) (sym q) ∙ sym e ∙ f) where
-  not_true : (t : Bool) → not t ≡ true → t ≡ false
-  not_true true h = sym h
-  not_true false h = refl
 
 -- the last mark is that of the innermost open element
 pub end_within : (s : State) (b : Builder) (rest : List Mark) (mark : Mark) → Keeps b s → b.marks.items ≡ rest ++ mark ∷ [] → mark.place < length b.nodes.items
@@ -149,26 +147,12 @@ end_within (reading (top ∷ outer)) b rest mark h e =
     omega arith
 end_within (done d) b rest mark h e = absurd (snoc_some rest mark (sym h.marks ∙ e))
 
-pub end_absent : (s : State) (b new : Builder) (name : List ℕ) → Keeps b s → b.marks.items ≡ [] → Takes {T = Unit {0}} s (End name) (Err Nest) new
-end_absent (reading []) b new name h e = refl
-end_absent (reading (top ∷ outer)) b new name h e = absurd (snoc_some (marks_of outer) (mark_of top outer) (sym e ∙ h.marks))
-end_absent (done d) b new name h e = refl
-
 -- the node at the last mark
 end_read : (top : Open) (outer : List Open) (b : Builder) (mark : Mark) (read : RawNode) → Keeps b (reading (top ∷ outer)) → length (nodes_of outer) ≡ mark.place
     → read ≡ get_or b.nodes.items mark.place read → read ≡ open_node top
 end_read top outer b mark read h p e =
     e ∙ ap (λ ns. get_or ns mark.place read) h.nodes ∙ ap (λ i. get_or (nodes_of outer ++ (open_node top ∷ preorder_all top.children)) i read) (sym p)
     ∙ get_or-append_seam (nodes_of outer) (open_node top) (preorder_all top.children) read
-
-pub end_other : (s : State) (b new : Builder) (rest : List Mark) (mark : Mark) (read : RawNode) (name : List ℕ) → Keeps b s → b.marks.items ≡ rest ++ mark ∷ []
-    → read ≡ get_or b.nodes.items mark.place read → bytes_eq read.name name ≡ false → Takes {T = Unit {0}} s (End name) (Err Nest) new
-end_other (reading []) b new rest mark read name h e at_place other = refl
-end_other (reading (top ∷ outer)) b new rest mark read name h e at_place other =
-    let r = snoc_same (marks_of outer) rest (mark_of top outer) mark (sym h.marks ∙ e) in
-    let n = end_read top outer b mark read h (ap (λ (m : Mark). m.place) r.1) at_place in
-    ap (λ t. cond t (Some (put (ended top) outer)) None) (ap (λ (x : RawNode). bytes_eq x.name name) (sym n) ∙ other)
-end_other (done d) b new rest mark read name h e at_place other = refl
 
 pub end_takes : (s : State) (b new : Builder) (rest : List Mark) (mark : Mark) (read : RawNode) (name : List ℕ) → Keeps b s → b.marks.items ≡ rest ++ mark ∷ []
     → read ≡ get_or b.nodes.items mark.place read → bytes_eq read.name name ≡ true
@@ -180,20 +164,16 @@ end_takes (reading (top ∷ outer)) b new rest mark read name h e at_place same 
     let n = end_read top outer b mark read h (ap (λ (m : Mark). m.place) r.1) at_place in
     let t : top.text ≡ mark.text = ap (λ (m : Mark). m.text) r.1 in
     let news = ends (nodes_of outer) (open_node top) (preorder_all top.children) h.nodes (ap (λ (m : Mark). m.place) r.1) in
-    let nodes = news ∙ ap (λ u. nodes_of outer ++ ended_node (open_node top) (preorder_all top.children) u ∷ preorder_all top.children) (sym t) ∙ ap (λ ns. nodes_of outer ++ ns) (ended_is top) in
-    (put (ended top) outer,
-    ap (λ q. cond q (Some (put (ended top) outer)) None) (ap (λ (x : RawNode). bytes_eq x.name name) (sym n) ∙ same),
-    refl,
-    put_keeps (ended top) outer new nodes (marks ∙ sym r.0) is_done_now
-      (let l = length-append (nodes_of outer) (open_node top ∷ preorder_all top.children) in let m = length-append (nodes_of outer) (preorder (ended top)) in let f = h.few in omega arith))
+    let nodes = news ∙ ap (λ u. nodes_of outer ++ ended_node (open_node top) (preorder_all top.children) u ∷ preorder_all top.children) (sym t) ∙ ap (λ ns. nodes_of outer ++ ns) (ended_is top) in (
+      put (ended top) outer,
+      ap (λ q. cond q (Some (put (ended top) outer)) None) (ap (λ (x : RawNode). bytes_eq x.name name) (sym n) ∙ same),
+      refl,
+      put_keeps (ended top) outer new nodes (marks ∙ sym r.0) is_done_now
+          (let l = length-append (nodes_of outer) (open_node top ∷ preorder_all top.children) in let m = length-append (nodes_of outer) (preorder (ended top)) in let f = h.few in omega arith),
+    )
 end_takes (done d) b new rest mark read name h e at_place same ends marks is_done_now = absurd (snoc_some rest mark (sym h.marks ∙ e))
 
 -- ---- text
-
-pub text_absent : (s : State) (b new : Builder) (text : List ℕ) → Keeps b s → b.marks.items ≡ [] → Takes {T = Unit {0}} s (CData text) (Err Nest) new
-text_absent (reading []) b new text h e = refl
-text_absent (reading (top ∷ outer)) b new text h e = absurd (snoc_some (marks_of outer) (mark_of top outer) (sym e ∙ h.marks))
-text_absent (done d) b new text h e = refl
 
 -- the last mark with more text
 last_mark : (marks : List Mark) (last read : Mark) (text : List ℕ) → read ≡ get_or (marks ++ last ∷ []) (length (marks ++ last ∷ []) - 1) read
@@ -214,35 +194,10 @@ text_takes (reading (top ∷ outer)) b new len read text grown h l some at_last 
     let n : len ≡ length ms = l ∙ ap length h.marks in
     let at : read ≡ get_or ms (length ms - 1) read = at_last ∙ ap (λ xs. get_or xs (len - 1) read) h.marks ∙ ap (λ k. get_or ms (k - 1) read) n in
     let new_marks = marks ∙ ap (λ xs. set xs (len - 1) (record { place = read.place; text = grown })) h.marks
-        ∙ ap (λ k. set ms (k - 1) (record { place = read.place; text = grown })) n ∙ ap (λ t. set ms (length ms - 1) (record { place = read.place; text = t })) is_grown
-        ∙ last_mark (marks_of outer) (mark_of top outer) read text at in
+    ∙ ap (λ k. set ms (k - 1) (record { place = read.place; text = grown })) n ∙ ap (λ t. set ms (length ms - 1) (record { place = read.place; text = t })) is_grown
+    ∙ last_mark (marks_of outer) (mark_of top outer) read text at in
     (reading (with_text text top ∷ outer), refl, refl, record { nodes = nodes ∙ h.nodes; marks = new_marks; done = is_open ∙ h.done; few = h.few })
 text_takes (done d) b new len read text grown h l some at_last is_grown nodes marks is_open = absurd (let m = ap length h.marks in omega arith)
-
--- a text run in an element is taken as CDATA is
-pub run_inner : (s : State) (b new : Builder) (text : List ℕ) (result : Result (Unit {0}) Stop) → Keeps b s → 0 < length b.marks.items → Takes s (CData text) result new → Takes s (Text text) result new
-run_inner (reading []) b new text result h some t = absurd (let m = ap length h.marks in omega arith)
-run_inner (reading (top ∷ outer)) b new text (Ok x) h some t = t
-run_inner (reading (top ∷ outer)) b new text (Err Nest) h some t = t
-run_inner (reading (top ∷ outer)) b new text (Err (Limit w)) h some t = t
-run_inner (reading (top ∷ outer)) b new text (Err Memory) h some t = t
-run_inner (done d) b new text result h some t = absurd (let m = ap length h.marks in omega arith)
-
-pub run_outer : (s : State) (b : Builder) (text : List ℕ) → Keeps b s → length b.marks.items ≡ 0 → only_space text ≡ true → Takes {T = Unit {0}} s (Text text) (Ok tt) b
-run_outer (reading []) b text h e p = (reading [], ap (λ t. cond t (Some (reading [])) None) p, refl, h)
-run_outer (reading (top ∷ outer)) b text h e p = absurd (let m = ap length h.marks in let l = length-marks_of (top ∷ outer) in omega arith)
-run_outer (done d) b text h e p = (done d, ap (λ t. cond t (Some (done d)) None) p, refl, h)
-
-pub run_refused : (s : State) (b new : Builder) (text : List ℕ) → Keeps b s → length b.marks.items ≡ 0 → only_space text ≡ false → Takes {T = Unit {0}} s (Text text) (Err Nest) new
-run_refused (reading []) b new text h e p = ap (λ t. cond t (Some (reading [])) None) p
-run_refused (reading (top ∷ outer)) b new text h e p = absurd (let m = ap length h.marks in let l = length-marks_of (top ∷ outer) in omega arith)
-run_refused (done d) b new text h e p = ap (λ t. cond t (Some (done d)) None) p
-
--- ---- a comment
-
-pub comment_takes : (s : State) (b : Builder) → Keeps b s → Takes {T = Unit {0}} s Comment (Ok tt) b
-comment_takes (reading opens) b h = (reading opens, refl, refl, h)
-comment_takes (done e) b h = (done e, refl, refl, h)
 
 -- ---- what `?` hands on
 

@@ -1,5 +1,5 @@
 -- What a piece holds is names and characters.
-use Rattle.std.proofs.Common.{◌≡◌, ℕ, zero, suc, ◌+◌, ◌<◌, ◌≤◌, Bool, true, false, leb, ltb, ◌||◌, ◌⊎◌, List, [], ◌∷◌, ◌++◌, length, get_or, refl, sym, ap, subst, ◌∙◌, inl, inr, append_assoc, lit<, arith}
+use Rattle.std.proofs.Common.{◌≡◌, ℕ, zero, suc, ◌<◌, Bool, true, ltb, ◌||◌, ◌⊎◌, List, [], ◌∷◌, ◌++◌, length, refl, sym, ap, subst, ◌∙◌, inl, inr, append_assoc, lit<, arith}
 use Rattle.std.specs.Prelude.{encode_utf8, codes, IsUtf8}
 use Rattle.std.specs.List.{AllByRecursion, flat_map, list_all}
 use Rattle.std.specs.Str.{IsAscii}
@@ -10,9 +10,9 @@ use Rattle.e57_pieces.specs.declared.piece.Attr.{Attr}
 use Rattle.e57_pieces.specs.declared.piece.Piece.{Piece}
 use Rattle.e57_pieces.specs.declared.piece.Piece.TheVariants.{Start, Empty, End, Comment, CData, Text}
 use Rattle.e57_pieces.specs.Characters.{between, is_character, AreCharacters}
-use Rattle.e57_pieces.specs.Words.{is_space, is_plain, is_decimal, is_hexadecimal, Each, IsName, number}
-use Rattle.e57_pieces.specs.Grammar.{IsNamed, IsNumbered, IsReference, IsPart, Means, IsAttr, AreAttrs, differ, IsInside, IsTag, IsEndTag, IsCData, IsRun, Spelled, IsPiece}
-use Rattle.e57_pieces.specs.Laws.Characters.{or_true, and_true, between_bounds, IsUtf8-AreCharacters, AreCharacters-append, AreCharacters-nil, AreCharacters-parts, AreCharacters-after, AreCharacters-before}
+use Rattle.e57_pieces.specs.Words.{is_space, is_plain, is_decimal, is_hexadecimal, Each, IsName}
+use Rattle.e57_pieces.specs.Grammar.{IsNumbered, IsReference, IsPart, Means, IsAttr, AreAttrs, differ, IsInside, IsTag, IsCData, IsPiece}
+use Rattle.e57_pieces.specs.Laws.Characters.{or_true, and_true, between_bounds, AreCharacters-append, AreCharacters-nil, AreCharacters-parts, AreCharacters-before}
 use Rattle.e57_pieces.specs.Laws.References.{reference_begins}
 use Rattle.e57_pieces.specs.Laws.Attributes.{spaces}
 use Rattle.e57_elements.specs.Lawful.{IsLawfulAttr}
@@ -140,9 +140,9 @@ attr_starts : (spelling rest : List ℕ) (attr : Attr) → IsAttr spelling attr 
 attr_starts spelling rest attr h =
     let tail = attr.name ++ (h.left ++ (codes "=" ++ (h.right ++ (h.quote ∷ h.value ++ h.quote ∷ [])))) in
     subst (λ (s : List ℕ). StartsLow (s ++ rest)) (sym h.spelled) (begins h.before tail h.some_space h.spaces.0) where
-  begins : (before tail : List ℕ) → 0 < length before → Each is_space before → StartsLow ((before ++ tail) ++ rest)
-  begins [] tail some each = absurd (omega arith)
-  begins (b ∷ bs) tail some each = space_low b each.0
+      begins : (before tail : List ℕ) → 0 < length before → Each is_space before → StartsLow ((before ++ tail) ++ rest)
+      begins [] tail some each = absurd (omega arith)
+      begins (b ∷ bs) tail some each = space_low b each.0
 
 quote_low : (q : ℕ) → (q ≡ 34) ⊎ (q ≡ 39) → q < 128
 quote_low q (inl e) = omega arith

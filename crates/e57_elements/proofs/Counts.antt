@@ -1,16 +1,16 @@
 -- The counts of the pieces are those of the machine's state; and what a tree within the limits says of the states before it.
-use Rattle.std.proofs.Common.{◌≡◌, ℕ, suc, ◌+◌, ◌-◌, ◌*◌, ◌^◌, ◌<◌, ◌≤◌, max, Bool, true, false, List, [], ◌∷◌, ◌++◌, length, Option, Some, None, refl, sym, ap, subst, ◌∙◌, length-append, arith}
+use Rattle.std.proofs.Common.{◌≡◌, ℕ, ◌+◌, ◌^◌, ◌≤◌, max, List, [], ◌∷◌, ◌++◌, length, Option, Some, None, refl, sym, ap, subst, ◌∙◌, length-append, arith}
 use Rattle.std.specs.List.{AllByRecursion}
-use Rattle.e57_pieces.specs.declared.piece.Attr.{Attr}
 use Rattle.e57_pieces.specs.declared.piece.Piece.{Piece}
 use Rattle.e57_pieces.specs.declared.piece.Piece.TheVariants.{Start, Empty, End, Comment, CData, Text}
 use Rattle.e57_elements.specs.declared.tree.RawNode.{RawNode}
 use Rattle.e57_elements.specs.Tree.{Element, element, Elements, none, more, preorder, preorder_all, depth, depth_all}
 use Rattle.e57_elements.specs.Fault.{begun, opened, closed, total, open_after, limit, passes}
-use Rattle.e57_elements.specs.Machine.{Open, State, reading, done, join, begin, with_child, ended, put, step, step_on, run, open_node, nodes_of, state_nodes, state_depth, passes_in}
+use Rattle.e57_elements.specs.Machine.{Open, State, reading, done, join, begin, ended, put, step, run, open_node, nodes_of, state_nodes, state_depth, passes_in}
 use Rattle.e57_elements.proofs.Limits.{limit_none}
 use Rattle.e57_elements.proofs.Nodes.{put_nodes}
 use Rattle.e57_elements.proofs.Runs.{run-append, run-none}
+use Rattle.e57_elements.proofs.Lists.{all-parts, all-joined}
 use Rattle.e57_elements.proofs.Steps.{Steps, by_steps}
 
 put_depth : (e : Element) (opens : List Open) → state_depth (put e opens) ≡ length opens
@@ -37,7 +37,8 @@ counts = record {
   comment = λ s. record { depths = refl; nodes = omega arith };
   cdata = λ text top outer. record { depths = refl; nodes = omega arith };
   run = λ text top outer. record { depths = refl; nodes = omega arith };
-  space = λ text s h. record { depths = refl; nodes = omega arith };
+  space_before = λ text h. record { depths = refl; nodes = omega arith };
+  space_after = λ text e h. record { depths = refl; nodes = omega arith };
 }
 
 -- over a run
@@ -106,14 +107,6 @@ pub record Fits (s : State) : Type 0 where
   pub depth : peak s ≤ 64
   pub count : length (state_nodes s) ≤ 2 ^ 20
 
-pub all-parts : {X : Type 0} (P : X → Type 0) (xs ys : List X) → AllByRecursion P (xs ++ ys) → AllByRecursion P xs × AllByRecursion P ys
-all-parts P [] ys h = (tt, h)
-all-parts P (x ∷ xs) ys h = let r = all-parts P xs ys h.1 in ((h.0, r.0), r.1)
-
-pub all-joined : {X : Type 0} (P : X → Type 0) (xs ys : List X) → AllByRecursion P xs → AllByRecursion P ys → AllByRecursion P (xs ++ ys)
-all-joined P [] ys f g = g
-all-joined P (x ∷ xs) ys f g = (f.0, all-joined P xs ys f.1 g)
-
 -- where the state after a piece fits, so does the one before, and the piece passes no limit
 record Fitted (s : State) (x : Piece) (t : State) : Type 0 where
   back : Fits t → Fits s × (passes_in s x ≡ None)
@@ -123,32 +116,39 @@ put_fits e opens f = all-parts FewAttrs (nodes_of opens) (preorder e) (subst (λ
 
 fitted : Steps Fitted
 fitted = record {
-  start = λ opens name attrs. record { back = λ f.
-    let parts = all-parts FewAttrs (nodes_of opens) (open_node (begin name attrs) ∷ []) f.attrs in
-    let d = f.depth in
-    let n = f.count in
-    let l = length-append (nodes_of opens) (open_node (begin name attrs) ∷ []) in
-    (record { attrs = parts.0; depth = omega arith; count = omega arith }, limit_none (length attrs) (length opens + 1) (length (nodes_of opens) + 1) parts.1.0 (omega arith) (omega arith)) };
-  empty = λ opens name attrs. record { back = λ f.
-    let e : Element = element name attrs [] none in
-    let parts = put_fits e opens f in
-    let d = f.depth in
-    let p = put_peak e opens in
-    let n = f.count in
-    let l = put_count e opens in
-    (record { attrs = parts.0; depth = omega arith; count = omega arith }, limit_none (length attrs) (length opens + 1) (length (nodes_of opens) + 1) parts.1.0 (omega arith) (omega arith)) };
-  end = λ top outer. record { back = λ f.
-    let parts = put_fits (ended top) outer f in
-    let d = f.depth in
-    let p = put_peak (ended top) outer in
-    let n = f.count in
-    let l = put_count (ended top) outer in
-    let m = length-append (nodes_of outer) (open_node top ∷ preorder_all top.children) in
-    (record { attrs = all-joined FewAttrs (nodes_of outer) (open_node top ∷ preorder_all top.children) parts.0 parts.1; depth = omega arith; count = omega arith }, refl) };
+  start = λ opens name attrs. record {
+    back = λ f.
+        let parts = all-parts FewAttrs (nodes_of opens) (open_node (begin name attrs) ∷ []) f.attrs in
+        let d = f.depth in
+        let n = f.count in
+        let l = length-append (nodes_of opens) (open_node (begin name attrs) ∷ []) in
+        (record { attrs = parts.0; depth = omega arith; count = omega arith }, limit_none (length attrs) (length opens + 1) (length (nodes_of opens) + 1) parts.1.0 (omega arith) (omega arith));
+  };
+  empty = λ opens name attrs. record {
+    back = λ f.
+        let e : Element = element name attrs [] none in
+        let parts = put_fits e opens f in
+        let d = f.depth in
+        let p = put_peak e opens in
+        let n = f.count in
+        let l = put_count e opens in
+        (record { attrs = parts.0; depth = omega arith; count = omega arith }, limit_none (length attrs) (length opens + 1) (length (nodes_of opens) + 1) parts.1.0 (omega arith) (omega arith));
+  };
+  end = λ top outer. record {
+    back = λ f.
+        let parts = put_fits (ended top) outer f in
+        let d = f.depth in
+        let p = put_peak (ended top) outer in
+        let n = f.count in
+        let l = put_count (ended top) outer in
+        let m = length-append (nodes_of outer) (open_node top ∷ preorder_all top.children) in
+        (record { attrs = all-joined FewAttrs (nodes_of outer) (open_node top ∷ preorder_all top.children) parts.0 parts.1; depth = omega arith; count = omega arith }, refl);
+  };
   comment = λ s. record { back = λ f. (f, refl) };
   cdata = λ text top outer. record { back = λ f. (record { attrs = f.attrs; depth = f.depth; count = f.count }, refl) };
   run = λ text top outer. record { back = λ f. (record { attrs = f.attrs; depth = f.depth; count = f.count }, refl) };
-  space = λ text s h. record { back = λ f. (f, refl) };
+  space_before = λ text h. record { back = λ f. (f, refl) };
+  space_after = λ text e h. record { back = λ f. (f, refl) };
 }
 
 pub run_fits : (xs : List Piece) (s t : State) → run (Some s) xs ≡ Some t → Fits t → Fits s

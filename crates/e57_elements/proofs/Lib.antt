@@ -1,3 +1,5 @@
+mod Lists
+mod Steps
 mod Runs
 mod Represents
 mod Nodes
@@ -7,7 +9,6 @@ mod Writing
 mod Elements
 mod Escapes
 mod Spelled
-mod Steps
 mod Counts
 mod Characters
 mod Lawful

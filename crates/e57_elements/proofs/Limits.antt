@@ -1,10 +1,7 @@
 -- What a limit says.
-use Rattle.std.proofs.Common.{◌≡◌, ℕ, ◌+◌, ◌^◌, ◌<◌, ◌≤◌, Bool, true, false, cond, ltb, Option, Some, None, refl, sym, ap, ◌∙◌, arith}
+use Rattle.std.proofs.Common.{◌≡◌, ℕ, ◌^◌, ◌<◌, ◌≤◌, Bool, true, false, cond, ltb, Option, Some, None, refl, ap, ◌∙◌}
 use Rattle.std.proofs.lemmas.Bool.{lt-ltb, le-ltb, ltb-false}
 use Rattle.e57_elements.specs.Fault.{limit}
-
-pub limit_1 : (n d p : ℕ) → 64 < n → limit n d p ≡ Some 1
-limit_1 n d p h = ap (λ b. cond b (Some 1) (cond (ltb 64 d) (Some 2) (cond (ltb (2 ^ 20) p) (Some 3) None))) (lt-ltb 64 n h)
 
 pub limit_2 : (n d p : ℕ) → n ≤ 64 → 64 < d → limit n d p ≡ Some 2
 limit_2 n d p h k =

@@ -13,7 +13,8 @@ use Rattle.e57_elements.specs.Nested.{only_space}
 use Rattle.e57_elements.specs.Lawful.{IsLawfulAttr, IsLawfulNode, IsLawful, AreNodes}
 use Rattle.e57_elements.specs.Machine.{Open, State, reading, done, join, begin, with_child, put}
 use Rattle.e57_elements.specs.Making.{TreeSoFar, started, add_attr, set_text, set_size, ChangesLast, Ends, IsInnermost, MayStart, MayAttr, MayText, begun_nodes, begun_places, made, MayHaveChild, AreBegun, IsMade, IsLawfulSoFar}
-use Rattle.e57_elements.proofs.Nodes.{preorder_all-join, snoc_same, snoc_some}
+use Rattle.e57_elements.proofs.Lists.{all-joined, snoc_same, snoc_some}
+use Rattle.e57_elements.proofs.Nodes.{preorder_all-join}
 use Rattle.e57_elements.proofs.Elements.{length-preorder, size_some}
 
 abbrev pub so_far : List RawNode → List ℕ → TreeSoFar
@@ -21,10 +22,6 @@ so_far nodes begun = record { nodes = nodes; begun = begun }
 
 abbrev AllLawful : List RawNode → Type 0
 AllLawful nodes = AllByRecursion IsLawfulNode nodes
-
-all_append : (xs ys : List RawNode) → AllLawful xs → AllLawful ys → AllLawful (xs ++ ys)
-all_append [] ys f g = g
-all_append (x ∷ xs) ys f g = (f.0, all_append xs ys f.1 g)
 
 -- ---- the innermost begun node
 
@@ -164,15 +161,11 @@ changed_lawful tree places before node new h at_places at_nodes same_size keeps 
       not_large = let a = length-append before (node ∷ []) in let b = length-append before (new ∷ []) in let f = ap length at_nodes in let l = h.not_large in omega arith;
     }
 
-attrs_append : (xs ys : List Attr) → AllByRecursion IsLawfulAttr xs → AllByRecursion IsLawfulAttr ys → AllByRecursion IsLawfulAttr (xs ++ ys)
-attrs_append [] ys f g = g
-attrs_append (x ∷ xs) ys f g = (f.0, attrs_append xs ys f.1 g)
-
 attr_keeps : (tree : TreeSoFar) (name value : List ℕ) (may : MayAttr tree name value) → IsLawfulNode (set_size 1 may.node) → IsLawfulNode (set_size 1 (add_attr name value may.node))
 attr_keeps tree name value may h = record {
   is_name = h.is_name;
   name = h.name;
-  each = attrs_append may.node.attrs (record { name = name; value = value } ∷ []) h.each (record { is_name = may.is_name; name = may.characters; value = may.value_characters }, tt);
+  each = all-joined IsLawfulAttr may.node.attrs (record { name = name; value = value } ∷ []) h.each (record { is_name = may.is_name; name = may.characters; value = may.value_characters }, tt);
   names_differ = may.names_differ;
   few_attrs = let l = length-append may.node.attrs ((record { name = name; value = value }) ∷ []) in let f = may.few in omega arith;
   text = h.text;
@@ -227,7 +220,7 @@ depth_all-join (more c cs) ds = let h = depth_all-join cs ds in omega arith
 with_child_lawful : (next : Open) (e : Element) → AllLawful (preorder (made next)) → (only_space next.text ≡ true → next.text ≡ []) → AllLawful (preorder e) → AllLawful (preorder (made (with_child e next)))
 with_child_lawful next e h may below =
     (record { is_name = h.0.is_name; name = h.0.name; each = h.0.each; names_differ = h.0.names_differ; few_attrs = h.0.few_attrs; text = h.0.text; no_space = λ size space. may space },
-    subst (λ ns. AllLawful ns) (sym (preorder_all-join next.children (more e none))) (all_append (preorder_all next.children) (preorder_all (more e none)) h.1 (all_append (preorder e) [] below tt)))
+    subst (λ ns. AllLawful ns) (sym (preorder_all-join next.children (more e none))) (all-joined IsLawfulNode (preorder_all next.children) (preorder_all (more e none)) h.1 (all-joined IsLawfulNode (preorder e) [] below tt)))
 
 put_made : (top : Open) (outer : List Open) (places : List ℕ) (before : List RawNode) (node : RawNode) (below : List RawNode) → Inner top outer places before node below → AreBegun (top ∷ outer)
     → IsMade (put (made top) outer) (so_far (before ++ set_size (length below + 1) node ∷ below) places)

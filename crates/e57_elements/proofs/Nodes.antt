@@ -1,13 +1,10 @@
 -- The nodes of a state, and the marks that the builder keeps.
-use Rattle.std.proofs.Common.{◌≡◌, ℕ, suc, ◌+◌, ◌*◌, ◌^◌, ◌<◌, ◌≤◌, Bool, true, false, cond, ◌&&◌, ltb, eqb, List, [], ◌∷◌, ◌++◌, length, get_or, set, Option, Some, None, refl, sym, ap, subst, ◌∙◌, append_assoc, length-append, arith}
+use Rattle.std.proofs.Common.{◌≡◌, ℕ, suc, ◌+◌, true, cond, ◌&&◌, ltb, eqb, List, [], ◌∷◌, ◌++◌, length, refl, sym, ap, ◌∙◌, append_assoc, length-append, arith}
 use Rattle.std.proofs.lemmas.List.{append-nil}
 use Rattle.std.proofs.lemmas.Bool.{lt-ltb, ne_eqb}
-use Rattle.e57_pieces.specs.declared.piece.Attr.{Attr}
-use Rattle.e57_elements.specs.declared.tree.RawNode.{RawNode}
-use Rattle.e57_elements.specs.declared.builder.Mark.{Mark}
 use Rattle.e57_elements.specs.Tree.{Element, element, Elements, none, more, preorder, preorder_all}
 use Rattle.e57_elements.specs.Nested.{only_space, kept}
-use Rattle.e57_elements.specs.Machine.{Open, State, reading, done, join, with_child, ended, put, open_node, nodes_of, state_nodes}
+use Rattle.e57_elements.specs.Machine.{Open, join, ended, put, open_node, nodes_of, state_nodes}
 use Rattle.e57_elements.specs.Builder.{mark_of, marks_of, state_marks, is_done, ended_node}
 
 pub preorder_all-join : (ds es : Elements) → preorder_all (join ds es) ≡ preorder_all ds ++ preorder_all es
@@ -41,21 +38,3 @@ ended_is top = ap (λ t. record { name = top.name; attrs = top.attrs; text = t; 
       let e : length (preorder_all (more (element name attrs t ds) es)) ≡ suc (length (preorder_all ds ++ preorder_all es)) = refl in
       let h : ltb 1 (length (preorder_all (more (element name attrs t ds) es)) + 1) ≡ true = lt-ltb 1 (length (preorder_all (more (element name attrs t ds) es)) + 1) (omega arith) in
       ap (λ b. cond (b && only_space text) [] text) h
-
--- ---- one more at the end
-
-pub snoc_some : {X : Type 0} (xs : List X) (x : X) → [] ≡ xs ++ x ∷ [] → ⊥
-snoc_some [] x e = cc
-snoc_some (y ∷ xs) x e = cc
-
-cons_same : {X : Type 0} (x y : X) (xs ys : List X) → x ∷ xs ≡ y ∷ ys → (x ≡ y) × (xs ≡ ys)
-cons_same x y xs ys e = (cc, cc)
-
-pub snoc_same : {X : Type 0} (xs ys : List X) (x y : X) → xs ++ x ∷ [] ≡ ys ++ y ∷ [] → (xs ≡ ys) × (x ≡ y)
-snoc_same [] [] x y e = (refl, (cons_same x y [] [] e).0)
-snoc_same [] (b ∷ ys) x y e = absurd (snoc_some ys y (cons_same x b [] (ys ++ y ∷ []) e).1)
-snoc_same (a ∷ xs) [] x y e = absurd (snoc_some xs x (sym (cons_same a y (xs ++ x ∷ []) [] e).1))
-snoc_same (a ∷ xs) (b ∷ ys) x y e =
-    let tails = cons_same a b (xs ++ x ∷ []) (ys ++ y ∷ []) e in
-    let r = snoc_same xs ys x y tails.1 in
-    (ap (λ c. c ∷ xs) tails.0 ∙ ap (λ zs. b ∷ zs) r.0, r.1)

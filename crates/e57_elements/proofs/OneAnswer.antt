@@ -1,7 +1,6 @@
 -- A text has one tree or one first fault.
-use Rattle.std.proofs.Common.{◌≡◌, ℕ, suc, ◌+◌, ◌-◌, ◌^◌, ◌<◌, ◌≤◌, Bool, true, false, ◌⊎◌, List, [], ◌∷◌, ◌++◌, length, Option, Some, None, refl, sym, ap, subst, ◌∙◌, inl, inr, append_assoc, arith}
+use Rattle.std.proofs.Common.{◌≡◌, ℕ, ◌-◌, ◌≤◌, ◌⊎◌, List, [], ◌∷◌, ◌++◌, length, Some, None, sym, ap, subst, ◌∙◌, inl, inr, append_assoc, arith}
 use Rattle.std.specs.Prelude.{IsUtf8}
-use Rattle.std.specs.List.{AllByRecursion}
 use Rattle.std.proofs.lemmas.List.{append-nil}
 use Rattle.std.proofs.lemmas.Bool.{cases_lt}
 use Rattle.e57_base.specs.declared.fault.Fault.{Fault}
@@ -15,7 +14,7 @@ use Rattle.e57_elements.specs.Tree.{Element, preorder}
 use Rattle.e57_elements.specs.Nested.{Nested, Alive}
 use Rattle.e57_elements.specs.Lawful.{IsLawful}
 use Rattle.e57_elements.specs.Spells.{Spells}
-use Rattle.e57_elements.specs.Fault.{passes, fault_at, AreSound, IsPieceFault, IsStopFault, IsBodyFault, IsFirstFault}
+use Rattle.e57_elements.specs.Fault.{fault_at, AreSound, IsPieceFault, IsStopFault, IsBodyFault, IsFirstFault}
 use Rattle.e57_elements.specs.Machine.{reading, done, run}
 use Rattle.e57_elements.proofs.Runs.{nested_runs}
 use Rattle.e57_elements.proofs.Counts.{Fits, fits_passes}
@@ -116,12 +115,12 @@ first_is_one : (len : ℕ) (body : List ℕ) (f g : Fault) (a : IsBodyFault len 
 first_is_one len body f g a b utf8 le =
     let (after, parts, front) = front_goes_on a.before b.before body a.here b.here utf8 a.is_front b.is_front le in
     go after parts front where
-  go : (after : List Piece) → b.before ≡ a.before ++ after → IsFront a.here after b.here → f ≡ g
-  go [] parts same_here =
-      let same_before : b.before ≡ a.before = parts ∙ append-nil a.before in
-      let moved = subst (λ (h : List ℕ). FaultHere len a.before h g) (sym same_here) (subst (λ (ps : List Piece). FaultHere len ps b.here g) same_before b.is_fault) in
-      one_fault_here len a.before a.here f g (IsUtf8-front a.before body a.here utf8 a.is_front) a.is_fault moved
-  go (z ∷ zs) parts (rest, next_z, front) = absurd (no_fault_within len a.before zs b.before z a.here rest f (IsUtf8-front a.before body a.here utf8 a.is_front) parts next_z b.are_sound a.is_fault)
+      go : (after : List Piece) → b.before ≡ a.before ++ after → IsFront a.here after b.here → f ≡ g
+      go [] parts same_here =
+          let same_before : b.before ≡ a.before = parts ∙ append-nil a.before in
+          let moved = subst (λ (h : List ℕ). FaultHere len a.before h g) (sym same_here) (subst (λ (ps : List Piece). FaultHere len ps b.here g) same_before b.is_fault) in
+          one_fault_here len a.before a.here f g (IsUtf8-front a.before body a.here utf8 a.is_front) a.is_fault moved
+      go (z ∷ zs) parts (rest, next_z, front) = absurd (no_fault_within len a.before zs b.before z a.here rest f (IsUtf8-front a.before body a.here utf8 a.is_front) parts next_z b.are_sound a.is_fault)
 
 one_body_fault : (len : ℕ) (body : List ℕ) (f g : Fault) → IsUtf8 body → IsBodyFault len body f → IsBodyFault len body g → f ≡ g
 one_body_fault len body f g utf8 a b =

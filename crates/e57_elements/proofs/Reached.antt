@@ -1,12 +1,12 @@
 -- How far the reading of a body has come.
-use Rattle.std.proofs.Common.{◌≡◌, ℕ, suc, ◌+◌, ◌-◌, ◌^◌, ◌<◌, ◌≤◌, Bool, true, false, List, [], ◌∷◌, ◌++◌, length, Option, Some, None, MatchOption, IfNone, OnSome, Result, Ok, Err, IfOk, IfErr, eqb, refl, sym, ap, subst, ◌∙◌, inl, inr, length-append, arith}
+use Rattle.std.proofs.Common.{◌≡◌, ℕ, ◌-◌, ◌^◌, ◌<◌, ◌≤◌, Bool, true, List, [], ◌∷◌, ◌++◌, length, Option, Some, None, MatchOption, IfNone, OnSome, Result, Ok, Err, IfOk, IfErr, eqb, refl, sym, ap, subst, ◌∙◌, inl, inr, length-append, arith}
 use Rattle.std.proofs.lemmas.Bool.{ne_eqb}
 use Rattle.std.specs.List.{AllByRecursion}
 use Rattle.e57_base.specs.declared.fault.TextFault.{TextFault}
 use Rattle.e57_base.specs.declared.fault.TextFault.TheVariants as failure
 use Rattle.e57_base.specs.declared.kind.Kind.TheVariants as kind
 use Rattle.e57_pieces.specs.declared.piece.Piece.{Piece}
-use Rattle.e57_pieces.specs.Cut.{NoPiece, IsNext, IsFront, IsCut}
+use Rattle.e57_pieces.specs.Cut.{NoPiece, IsNext, IsFront}
 use Rattle.e57_pieces.specs.Start.{strip, mark, after_mark, Begins}
 use Rattle.e57_pieces.specs.Laws.Fronts.{strip_took}
 use Rattle.e57_pieces.specs.Laws.Start.{no_mark, mark_taken}
@@ -15,12 +15,10 @@ use Rattle.e57_elements.specs.declared.tree.RawNode.{RawNode}
 use Rattle.e57_elements.specs.declared.builder.Builder.{Builder}
 use Rattle.e57_elements.specs.declared.builder.Stop.{Stop}
 use Rattle.e57_elements.specs.declared.builder.Stop.TheVariants.{Nest, Limit, Memory}
-use Rattle.e57_elements.specs.Tree.{Element, preorder}
-use Rattle.e57_elements.specs.Nested.{Nested, Alive}
-use Rattle.e57_elements.specs.Lawful.{IsLawfulNode, IsLawful}
-use Rattle.e57_elements.specs.Fault.{passes, AreSound, IsBodyFault, fault_at}
-use Rattle.e57_elements.specs.Machine.{State, reading, done, step, run, state_nodes, passes_in}
-use Rattle.e57_elements.specs.Builder.{Keeps, IsBuilder, IsFinished, Takes, stop_fault, ReadsBody, IsBodyFailure, Ends}
+use Rattle.e57_elements.specs.Lawful.{IsLawfulNode}
+use Rattle.e57_elements.specs.Fault.{AreSound, fault_at}
+use Rattle.e57_elements.specs.Machine.{State, reading, done, step, run, state_nodes}
+use Rattle.e57_elements.specs.Builder.{Keeps, Takes, stop_fault, ReadsBody, IsBodyFailure, Ends}
 use Rattle.e57_elements.proofs.Runs.{run-append, nested_runs}
 use Rattle.e57_elements.proofs.Represents.{run_alive, alive_runs, runs_nested}
 use Rattle.e57_elements.proofs.Counts.{Fits, FewAttrs, passes_is, fits_passes}
@@ -78,12 +76,22 @@ reached_next body here rest piece old new r next takes =
 pub stopped : (body here rest : List ℕ) (piece : Piece) (old new : Builder) (stop : Stop) (len : ℕ) → Reached body here old → IsNext here piece rest
     → ((s : State) → Keeps old s → Takes {T = Unit {0}} s piece (Err stop) new) → IsBodyFailure len body (stop_fault stop (len - length here))
 stopped body here rest piece old new Nest len r next takes =
-    record { before = r.before; here = here; is_front = r.is_front; are_sound = reached_sound body here old r;
-      is_fault = inl (piece, rest, next, inl ((λ alive. alive_runs (r.before ++ piece ∷ []) alive (one_more r.before piece r.state r.runs ∙ takes r.state r.keeps)), refl)) }
+    record {
+      before = r.before;
+      here = here;
+      is_front = r.is_front;
+      are_sound = reached_sound body here old r;
+      is_fault = inl (piece, rest, next, inl ((λ alive. alive_runs (r.before ++ piece ∷ []) alive (one_more r.before piece r.state r.runs ∙ takes r.state r.keeps)), refl));
+    }
 stopped body here rest piece old new (Limit b) len r next takes =
     let (after, steps, limit) = takes r.state r.keeps in
-    record { before = r.before; here = here; is_front = r.is_front; are_sound = reached_sound body here old r;
-      is_fault = inl (piece, rest, next, inr (run_alive (r.before ++ piece ∷ []) after (one_more r.before piece r.state r.runs ∙ steps), b, passes_is r.before r.state piece r.runs ∙ limit, refl)) }
+    record {
+      before = r.before;
+      here = here;
+      is_front = r.is_front;
+      are_sound = reached_sound body here old r;
+      is_fault = inl (piece, rest, next, inr (run_alive (r.before ++ piece ∷ []) after (one_more r.before piece r.state r.runs ∙ steps), b, passes_is r.before r.state piece r.runs ∙ limit, refl));
+    }
 stopped body here rest piece old new Memory len r next takes = tt
 
 -- no piece is spelled here
@@ -93,13 +101,17 @@ end_fault body [] builder len result r none_here ends = go r.state r.runs (ends 
   go : (s : State) → run (Some (reading [])) r.before ≡ Some s → Ends s true (len - 0) result → IfErr result (λ failure. IsBodyFailure len body failure)
   go (reading opens) e f =
       subst (λ (x : Result (List RawNode) TextFault). IfErr x (λ failure. IsBodyFailure len body failure)) (sym f) (record {
-        before = r.before; here = []; is_front = r.is_front; are_sound = reached_sound body [] builder r;
-        is_fault = inr (none_here, ((λ tree nested. let g : Some (reading opens) ≡ Some (done tree) = sym e ∙ nested_runs r.before tree nested in cc), refl)) })
+        before = r.before;
+        here = [];
+        is_front = r.is_front;
+        are_sound = reached_sound body [] builder r;
+        is_fault = inr (none_here, ((λ tree nested. let g : Some (reading opens) ≡ Some (done tree) = sym e ∙ nested_runs r.before tree nested in cc), refl));
+      })
   go (done d) e f = subst (λ (x : Result (List RawNode) TextFault). IfErr x (λ failure. IsBodyFailure len body failure)) (sym f) tt
 end_fault body (b ∷ bs) builder len result r none_here ends =
     let f : result ≡ Err (failure.Refused (fault_at kind.Piece (len - length (b ∷ bs)) 0)) = subst (λ t. Ends r.state t (len - length (b ∷ bs)) result) (ne_eqb (length (b ∷ bs)) 0 (λ z. omega arith)) (ends r.state r.keeps) in
     subst (λ (x : Result (List RawNode) TextFault). IfErr x (λ failure. IsBodyFailure len body failure)) (sym f)
-      (record { before = r.before; here = b ∷ bs; is_front = r.is_front; are_sound = reached_sound body (b ∷ bs) builder r; is_fault = inr (none_here, refl) })
+    (record { before = r.before; here = b ∷ bs; is_front = r.is_front; are_sound = reached_sound body (b ∷ bs) builder r; is_fault = inr (none_here, refl) })
 
 pub end_found : (body here : List ℕ) (builder : Builder) (len : ℕ) (result : Result (List RawNode) TextFault) → Reached body here builder → NoPiece here
     → ((s : State) → Keeps builder s → Ends s (eqb (length here) 0) (len - length here) result) → IfOk result (λ nodes. ReadsBody body nodes)
@@ -108,19 +120,17 @@ end_found body [] builder len result r none_here ends = go r.state r.runs (ends 
   go (reading opens) e f h few = subst (λ (x : Result (List RawNode) TextFault). IfOk x (λ nodes. ReadsBody body nodes)) (sym f) tt
   go (done d) e f h few =
       subst (λ (x : Result (List RawNode) TextFault). IfOk x (λ nodes. ReadsBody body nodes)) (sym f)
-        (record { tree = d; pieces = r.before; is_cut = record { is_front = r.is_front; is_longest = none_here }; nested = runs_nested r.before d e;
-          in_preorder = refl; is_lawful = record { each = h.nodes; not_deep = h.not_deep; not_large = few } })
+      (record {
+        tree = d;
+        pieces = r.before;
+        is_cut = record { is_front = r.is_front; is_longest = none_here };
+        nested = runs_nested r.before d e;
+        in_preorder = refl;
+        is_lawful = record { each = h.nodes; not_deep = h.not_deep; not_large = few };
+      })
 end_found body (b ∷ bs) builder len result r none_here ends =
     let f : result ≡ Err (failure.Refused (fault_at kind.Piece (len - length (b ∷ bs)) 0)) = subst (λ t. Ends r.state t (len - length (b ∷ bs)) result) (ne_eqb (length (b ∷ bs)) 0 (λ z. omega arith)) (ends r.state r.keeps) in
     subst (λ (x : Result (List RawNode) TextFault). IfOk x (λ nodes. ReadsBody body nodes)) (sym f) tt
-
-pub builds : (body here : List ℕ) (builder : Builder) → Reached body here builder → IsBuilder builder
-builds body here builder r = record { state = r.state; keeps = r.keeps }
-
-pub finished : (body here : List ℕ) (builder : Builder) → Reached body here builder → IsFinished builder
-finished body here builder r = record { state = r.state; keeps = r.keeps; is_lawful = λ tree e.
-    let h = subst IsLawfulState e r.is_lawful in
-    record { each = h.nodes; not_deep = h.not_deep; not_large = subst (λ s. length (state_nodes s) ≤ 2 ^ 20) e r.keeps.few } }
 
 -- what the end says, in the words of the body
 pub told : (here left : List ℕ) (builder : Builder) (len k : ℕ) (at_end : Bool) (result : Result (List RawNode) TextFault) → at_end ≡ eqb (length left) 0 → left ≡ here → k ≡ length here

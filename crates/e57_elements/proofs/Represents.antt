@@ -1,19 +1,15 @@
 -- What the pieces are that led the machine to a state; and the pieces that it takes are just those that begin a nested list.
-use Rattle.std.proofs.Common.{◌≡◌, ℕ, Bool, true, false, cond, List, [], ◌∷◌, ◌++◌, Option, Some, None, refl, sym, ap, subst, ◌∙◌, inl, inr, append_assoc, arith}
+use Rattle.std.proofs.Common.{◌≡◌, ℕ, cond, List, [], ◌∷◌, ◌++◌, Option, Some, None, refl, sym, ap, subst, ◌∙◌, inl, inr, append_assoc}
 use Rattle.std.proofs.lemmas.List.{append-nil}
-use Rattle.std.proofs.lemmas.Slice.Eq.{bytes_eq-Decides}
 use Rattle.std.specs.List.{AllByRecursion}
-use Rattle.std.specs.Str.{bytes_eq}
 use Rattle.e57_pieces.specs.declared.piece.Piece.{Piece}
 use Rattle.e57_pieces.specs.declared.piece.Piece.TheVariants.{Start, Empty, End, Comment, CData, Text}
 use Rattle.e57_elements.specs.Tree.{Element, element, Elements, none, more}
-use Rattle.e57_elements.specs.Nested.{IsTextual, text_of, texts_of, AreTexts, kept, IsElement, IsContent, IsOuter, Nested, Alive, only_space}
-use Rattle.e57_elements.specs.Machine.{Open, State, reading, done, join, begin, with_text, with_child, ended, put, end_tag, inner_text, outer_text, text_run, step, step_on, run}
+use Rattle.e57_elements.specs.Nested.{IsTextual, text_of, texts_of, IsElement, IsContent, IsOuter, Nested, Alive}
+use Rattle.e57_elements.specs.Machine.{Open, State, reading, done, join, with_text, with_child, ended, put, step, run}
+use Rattle.e57_elements.proofs.Lists.{all-joined}
+use Rattle.e57_elements.proofs.Steps.{Steps, by_steps}
 use Rattle.e57_elements.proofs.Runs.{run-append, run-none, nested_runs, bytes_eq-same}
-
-all-append : {X : Type 0} (P : X → Type 0) (xs ys : List X) → AllByRecursion P xs → AllByRecursion P ys → AllByRecursion P (xs ++ ys)
-all-append P [] ys f g = g
-all-append P (x ∷ xs) ys f g = (f.0, all-append P xs ys f.1 g)
 
 texts_of-append : (xs ys : List Piece) → texts_of (xs ++ ys) ≡ texts_of xs ++ texts_of ys
 texts_of-append [] ys = refl
@@ -25,23 +21,38 @@ texts_of-append (x ∷ xs) ys = ap (λ t. text_of x ++ t) (texts_of-append xs ys
 content_text : (es : Elements) (xs : List Piece) (text : List ℕ) (x : Piece) → IsContent es xs text → IsTextual x → IsContent es (xs ++ x ∷ []) (text ++ text_of x)
 content_text none xs text x h is_textual =
     record {
-      each = all-append IsTextual xs (x ∷ []) h.each (is_textual, tt);
+      each = all-joined IsTextual xs (x ∷ []) h.each (is_textual, tt);
       joined = ap (λ t. t ++ text_of x) h.joined ∙ ap (λ t. texts_of xs ++ t) (sym (append-nil (text_of x))) ∙ sym (texts_of-append xs (x ∷ []));
     }
-content_text (more e es) xs text x (before, inside, after, first, rest, parts, joined, texts, is_element, content) is_textual =
-    (before, inside, after ++ x ∷ [], first, rest ++ text_of x,
-    ap (λ ps. ps ++ x ∷ []) parts ∙ append_assoc before (inside ++ after) (x ∷ []) ∙ ap (λ ps. before ++ ps) (append_assoc inside after (x ∷ [])),
-    ap (λ t. t ++ text_of x) joined ∙ append_assoc first rest (text_of x),
-    texts, is_element, content_text es after rest x content is_textual)
+content_text (more e es) xs text x (before, inside, after, first, rest, parts, joined, texts, is_element, content) is_textual = (
+  before,
+  inside,
+  after ++ x ∷ [],
+  first,
+  rest ++ text_of x,
+  ap (λ ps. ps ++ x ∷ []) parts ∙ append_assoc before (inside ++ after) (x ∷ []) ∙ ap (λ ps. before ++ ps) (append_assoc inside after (x ∷ [])),
+  ap (λ t. t ++ text_of x) joined ∙ append_assoc first rest (text_of x),
+  texts,
+  is_element,
+  content_text es after rest x content is_textual,
+)
 
 -- by one element
 content_child : (es : Elements) (xs ys : List Piece) (text : List ℕ) (e : Element) → IsContent es xs text → IsElement e ys → IsContent (join es (more e none)) (xs ++ ys) text
 content_child none xs ys text e h is_element =
     (xs, ys, [], text, [], ap (λ ps. xs ++ ps) (sym (append-nil ys)), sym (append-nil text), h, is_element, record { each = tt; joined = refl })
-content_child (more d es) xs ys text e (before, inside, after, first, rest, parts, joined, texts, is_first, content) is_element =
-    (before, inside, after ++ ys, first, rest,
-    ap (λ ps. ps ++ ys) parts ∙ append_assoc before (inside ++ after) ys ∙ ap (λ ps. before ++ ps) (append_assoc inside after ys),
-    joined, texts, is_first, content_child es after ys rest e content is_element)
+content_child (more d es) xs ys text e (before, inside, after, first, rest, parts, joined, texts, is_first, content) is_element = (
+  before,
+  inside,
+  after ++ ys,
+  first,
+  rest,
+  ap (λ ps. ps ++ ys) parts ∙ append_assoc before (inside ++ after) ys ∙ ap (λ ps. before ++ ps) (append_assoc inside after ys),
+  joined,
+  texts,
+  is_first,
+  content_child es after ys rest e content is_element,
+)
 
 -- ---- the pieces that led to a state
 
@@ -62,25 +73,37 @@ put_holds e (top ∷ outer) xs ys is_element (before, inside, parts, content, h)
 
 -- text in an open element
 text_holds : (top : Open) (outer : List Open) (xs : List Piece) (x : Piece) (t : List ℕ) → IsTextual x → text_of x ≡ t → Holds (top ∷ outer) xs → Holds (with_text t top ∷ outer) (xs ++ x ∷ [])
-text_holds top outer xs x t is_textual e (before, inside, parts, content, h) =
-    (before, inside ++ x ∷ [], ap (λ ps. ps ++ x ∷ []) parts ∙ append_assoc before (Start top.name top.attrs ∷ inside) (x ∷ []),
-    subst (λ u. IsContent top.children (inside ++ x ∷ []) (top.text ++ u)) e (content_text top.children inside top.text x content is_textual), h)
+text_holds top outer xs x t is_textual e (before, inside, parts, content, h) = (
+  before,
+  inside ++ x ∷ [],
+  ap (λ ps. ps ++ x ∷ []) parts ∙ append_assoc before (Start top.name top.attrs ∷ inside) (x ∷ []),
+  subst (λ u. IsContent top.children (inside ++ x ∷ []) (top.text ++ u)) e (content_text top.children inside top.text x content is_textual),
+  h,
+)
+
+-- comments and white space behind the root
+outer_holds : (x : Piece) (e : Element) (xs : List Piece) → IsOuter x → Nested xs e → Nested (xs ++ x ∷ []) e
+outer_holds x e xs outer h =
+    record {
+      before = h.before;
+      inside = h.inside;
+      after = h.after ++ x ∷ [];
+      parts = ap (λ ps. ps ++ x ∷ []) h.parts ∙ append_assoc h.before (h.inside ++ h.after) (x ∷ []) ∙ ap (λ ps. h.before ++ ps) (append_assoc h.inside h.after (x ∷ []));
+      outer_before = h.outer_before;
+      is_element = h.is_element;
+      outer_after = all-joined IsOuter h.after (x ∷ []) h.outer_after (outer, tt);
+    }
 
 comment_holds : (s : State) (xs : List Piece) → Represents s xs → Represents s (xs ++ Comment ∷ [])
-comment_holds (reading []) xs h = all-append IsOuter xs (Comment ∷ []) h (tt, tt)
-comment_holds (reading (top ∷ outer)) xs (before, inside, parts, content, h) =
-    (before, inside ++ Comment ∷ [], ap (λ ps. ps ++ Comment ∷ []) parts ∙ append_assoc before (Start top.name top.attrs ∷ inside) (Comment ∷ []),
-    subst (λ u. IsContent top.children (inside ++ Comment ∷ []) u) (append-nil top.text) (content_text top.children inside top.text Comment content tt), h)
-comment_holds (done e) xs h =
-    record { before = h.before; inside = h.inside; after = h.after ++ Comment ∷ [];
-      parts = ap (λ ps. ps ++ Comment ∷ []) h.parts ∙ append_assoc h.before (h.inside ++ h.after) (Comment ∷ []) ∙ ap (λ ps. h.before ++ ps) (append_assoc h.inside h.after (Comment ∷ []));
-      outer_before = h.outer_before; is_element = h.is_element; outer_after = all-append IsOuter h.after (Comment ∷ []) h.outer_after (tt, tt) }
-
-space_holds : (text : List ℕ) (e : Element) (xs : List Piece) → only_space text ≡ true → Nested xs e → Nested (xs ++ Text text ∷ []) e
-space_holds text e xs p h =
-    record { before = h.before; inside = h.inside; after = h.after ++ Text text ∷ [];
-      parts = ap (λ ps. ps ++ Text text ∷ []) h.parts ∙ append_assoc h.before (h.inside ++ h.after) (Text text ∷ []) ∙ ap (λ ps. h.before ++ ps) (append_assoc h.inside h.after (Text text ∷ []));
-      outer_before = h.outer_before; is_element = h.is_element; outer_after = all-append IsOuter h.after (Text text ∷ []) h.outer_after (p, tt) }
+comment_holds (reading []) xs h = all-joined IsOuter xs (Comment ∷ []) h (tt, tt)
+comment_holds (reading (top ∷ outer)) xs (before, inside, parts, content, h) = (
+  before,
+  inside ++ Comment ∷ [],
+  ap (λ ps. ps ++ Comment ∷ []) parts ∙ append_assoc before (Start top.name top.attrs ∷ inside) (Comment ∷ []),
+  subst (λ u. IsContent top.children (inside ++ Comment ∷ []) u) (append-nil top.text) (content_text top.children inside top.text Comment content tt),
+  h,
+)
+comment_holds (done e) xs h = outer_holds Comment e xs tt h
 
 end_holds : (top : Open) (outer : List Open) (xs : List Piece) → Holds (top ∷ outer) xs → Represents (put (ended top) outer) (xs ++ End top.name ∷ [])
 end_holds top outer xs (before, inside, parts, content, h) =
@@ -89,53 +112,20 @@ end_holds top outer xs (before, inside, parts, content, h) =
 
 -- ---- a step
 
--- a choice by a test gave something: the test held
-chosen : {X : Type 0} (b : Bool) (x y : X) → cond b (Some x) None ≡ Some y → (b ≡ true) × (x ≡ y)
-chosen true x y e = (refl, cc)
-chosen false x y e = cc
+record Represented (s : State) (x : Piece) (t : State) : Type 0 where
+  on : (xs : List Piece) → Represents s xs → Represents t (xs ++ x ∷ [])
 
-end_step : (name : List ℕ) (opens : List Open) (t : State) (xs : List Piece) → Holds opens xs → end_tag name opens ≡ Some t → Represents t (xs ++ End name ∷ [])
-end_step name [] t xs h e = cc
-end_step name (top ∷ outer) t xs h e =
-    let found : (bytes_eq top.name name ≡ true) × (put (ended top) outer ≡ t) = chosen (bytes_eq top.name name) (put (ended top) outer) t e in
-    let same : top.name ≡ name = (bytes_eq-Decides top.name name).0 found.0 in
-    subst (λ s. Represents s (xs ++ End name ∷ [])) found.1 (subst (λ n. Represents (put (ended top) outer) (xs ++ End n ∷ [])) same (end_holds top outer xs h))
-
-text_step : (x : Piece) (text : List ℕ) (opens : List Open) (t : State) (xs : List Piece) → IsTextual x → text_of x ≡ text → Holds opens xs → inner_text text opens ≡ Some t → Represents t (xs ++ x ∷ [])
-text_step x text [] t xs is_textual same h e = cc
-text_step x text (top ∷ outer) t xs is_textual same h e =
-    let given : reading (with_text text top ∷ outer) ≡ t = cc in
-    subst (λ s. Represents s (xs ++ x ∷ [])) given (text_holds top outer xs x text is_textual same h)
-
-run_step : (text : List ℕ) (opens : List Open) (t : State) (xs : List Piece) → Holds opens xs → text_run text opens ≡ Some t → Represents t (xs ++ Text text ∷ [])
-run_step text [] t xs h e =
-    let found : (only_space text ≡ true) × (reading [] ≡ t) = chosen (only_space text) (reading []) t e in
-    subst (λ s. Represents s (xs ++ Text text ∷ [])) found.1 (all-append IsOuter xs (Text text ∷ []) h (found.0, tt))
-run_step text (top ∷ outer) t xs h e = text_step (Text text) text (top ∷ outer) t xs tt refl h e
-
-pub step_holds : (s t : State) (x : Piece) (xs : List Piece) → Represents s xs → step s x ≡ Some t → Represents t (xs ++ x ∷ [])
-step_holds (reading opens) t (Start name attrs) xs h e =
-    let given : reading (begin name attrs ∷ opens) ≡ t = cc in
-    subst (λ s. Represents s (xs ++ Start name attrs ∷ [])) given (xs, [], refl, record { each = tt; joined = refl }, h)
-step_holds (reading opens) t (Empty name attrs) xs h e =
-    let given : put (element name attrs [] none) opens ≡ t = cc in
-    subst (λ s. Represents s (xs ++ Empty name attrs ∷ [])) given (put_holds (element name attrs [] none) opens xs (Empty name attrs ∷ []) (inl (refl, refl, refl)) h)
-step_holds (reading opens) t (End name) xs h e = end_step name opens t xs h e
-step_holds (reading opens) t Comment xs h e =
-    let given : reading opens ≡ t = cc in
-    subst (λ s. Represents s (xs ++ Comment ∷ [])) given (comment_holds (reading opens) xs h)
-step_holds (reading opens) t (CData text) xs h e = text_step (CData text) text opens t xs tt refl h e
-step_holds (reading opens) t (Text text) xs h e = run_step text opens t xs h e
-step_holds (done d) t (Start name attrs) xs h e = cc
-step_holds (done d) t (Empty name attrs) xs h e = cc
-step_holds (done d) t (End name) xs h e = cc
-step_holds (done d) t Comment xs h e =
-    let given : done d ≡ t = cc in
-    subst (λ s. Represents s (xs ++ Comment ∷ [])) given (comment_holds (done d) xs h)
-step_holds (done d) t (CData text) xs h e = cc
-step_holds (done d) t (Text text) xs h e =
-    let found : (only_space text ≡ true) × (done d ≡ t) = chosen (only_space text) (done d) t e in
-    subst (λ s. Represents s (xs ++ Text text ∷ [])) found.1 (space_holds text d xs found.0 h)
+represented : Steps Represented
+represented = record {
+  start = λ opens name attrs. record { on = λ xs h. (xs, [], refl, record { each = tt; joined = refl }, h) };
+  empty = λ opens name attrs. record { on = λ xs h. put_holds (element name attrs [] none) opens xs (Empty name attrs ∷ []) (inl (refl, refl, refl)) h };
+  end = λ top outer. record { on = λ xs h. end_holds top outer xs h };
+  comment = λ s. record { on = λ xs h. comment_holds s xs h };
+  cdata = λ text top outer. record { on = λ xs h. text_holds top outer xs (CData text) text tt refl h };
+  run = λ text top outer. record { on = λ xs h. text_holds top outer xs (Text text) text tt refl h };
+  space_before = λ text e. record { on = λ xs h. all-joined IsOuter xs (Text text ∷ []) h (e, tt) };
+  space_after = λ text d e. record { on = λ xs h. outer_holds (Text text) d xs e h };
+}
 
 -- ---- a run
 
@@ -148,7 +138,7 @@ run_holds (x ∷ xs) before s t h e = go (step s x) refl e (λ u f r. run_holds 
       → ((u : State) → Represents u (before ++ x ∷ []) → run (Some u) xs ≡ Some t → Represents t ((before ++ x ∷ []) ++ xs))
       → Represents t (before ++ (x ∷ xs))
   go None eq r goes_on = absurd (let f : None ≡ Some t = sym (run-none xs) ∙ r in cc)
-  go (Some u) eq r goes_on = subst (λ ps. Represents t ps) (append_assoc before (x ∷ []) xs) (goes_on u (step_holds s u x before h eq) r)
+  go (Some u) eq r goes_on = subst (λ ps. Represents t ps) (append_assoc before (x ∷ []) xs) (goes_on u ((by_steps Represented represented s x u eq).on before h) r)
 
 -- pieces that lead to a tree are nested
 pub runs_nested : (xs : List Piece) (tree : Element) → run (Some (reading [])) xs ≡ Some (done tree) → Nested xs tree

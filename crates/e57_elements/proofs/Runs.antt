@@ -1,5 +1,5 @@
 -- The machine takes the pieces of an element, and gives its tree.
-use Rattle.std.proofs.Common.{◌≡◌, ℕ, true, false, cond, List, [], ◌∷◌, ◌++◌, Option, Some, None, refl, sym, ap, subst, ◌∙◌, inl, inr, append_assoc, arith}
+use Rattle.std.proofs.Common.{◌≡◌, ℕ, true, cond, List, [], ◌∷◌, ◌++◌, Option, Some, None, refl, sym, ap, ◌∙◌, inl, inr, append_assoc}
 use Rattle.std.proofs.lemmas.List.{append-nil}
 use Rattle.std.proofs.lemmas.Slice.Eq.{bytes_eq-Decides}
 use Rattle.std.specs.List.{AllByRecursion}
@@ -7,8 +7,8 @@ use Rattle.std.specs.Str.{bytes_eq}
 use Rattle.e57_pieces.specs.declared.piece.Piece.{Piece}
 use Rattle.e57_pieces.specs.declared.piece.Piece.TheVariants.{Start, Empty, End, Comment, CData, Text}
 use Rattle.e57_elements.specs.Tree.{Element, element, Elements, none, more}
-use Rattle.e57_elements.specs.Nested.{IsTextual, texts_of, AreTexts, kept, IsElement, IsContent, IsOuter, Nested, only_space}
-use Rattle.e57_elements.specs.Machine.{Open, State, reading, done, join, begin, with_text, with_child, ended, put, end_tag, outer_text, step, step_on, run}
+use Rattle.e57_elements.specs.Nested.{IsTextual, texts_of, IsElement, IsContent, IsOuter, Nested, only_space}
+use Rattle.e57_elements.specs.Machine.{Open, State, reading, done, join, begin, with_text, with_child, ended, put, end_tag, outer_text, step_on, run}
 
 pub run-append : (s : Option State) (xs ys : List Piece) → run s (xs ++ ys) ≡ run (run s xs) ys
 run-append s [] ys = refl
@@ -76,10 +76,10 @@ mutual
       ∙ ap (λ o. Some (reading (o ∷ outer))) (grown-same top top.children (join top.children none) (top.text ++ texts_of xs) (top.text ++ text) (sym (join-none top.children)) (ap (λ t. top.text ++ t) (sym h.joined)))
   content_runs (more e es) xs text top outer (before, inside, after, first, rest, parts, joined, texts, is_element, content) =
       run_parts (reading (top ∷ outer)) (reading (with_text first top ∷ outer)) (reading (with_child e (with_text first top) ∷ outer)) (Some (reading (grown (more e es) text top ∷ outer))) xs before inside after parts
-        (texts_run before top outer texts.each ∙ ap (λ t. Some (reading (with_text t top ∷ outer))) (sym texts.joined))
-        (element_runs e inside (with_text first top ∷ outer) is_element)
-        (content_runs es after rest (with_child e (with_text first top)) outer content
-        ∙ ap (λ o. Some (reading (o ∷ outer))) (grown-same top (join (join top.children (more e none)) es) (join top.children (more e es)) ((top.text ++ first) ++ rest) (top.text ++ text) (join-assoc top.children (more e none) es) (append_assoc top.text first rest ∙ ap (λ t. top.text ++ t) (sym joined))))
+      (texts_run before top outer texts.each ∙ ap (λ t. Some (reading (with_text t top ∷ outer))) (sym texts.joined))
+      (element_runs e inside (with_text first top ∷ outer) is_element)
+      (content_runs es after rest (with_child e (with_text first top)) outer content
+      ∙ ap (λ o. Some (reading (o ∷ outer))) (grown-same top (join (join top.children (more e none)) es) (join top.children (more e es)) ((top.text ++ first) ++ rest) (top.text ++ text) (join-assoc top.children (more e none) es) (append_assoc top.text first rest ∙ ap (λ t. top.text ++ t) (sym joined))))
 
 outer_text-same : (text : List ℕ) (s : State) → only_space text ≡ true → outer_text text s ≡ Some s
 outer_text-same text s h = ap (λ b. cond b (Some s) None) h
@@ -106,4 +106,4 @@ after_runs (Text text ∷ xs) e h = ap (λ o. run o xs) (outer_text-same text (d
 pub nested_runs : (xs : List Piece) (tree : Element) → Nested xs tree → run (Some (reading [])) xs ≡ Some (done tree)
 nested_runs xs tree h =
     run_parts (reading []) (reading []) (done tree) (Some (done tree)) xs h.before h.inside h.after h.parts
-      (before_runs h.before h.outer_before) (element_runs tree h.inside [] h.is_element) (after_runs h.after tree h.outer_after)
+    (before_runs h.before h.outer_before) (element_runs tree h.inside [] h.is_element) (after_runs h.after tree h.outer_after)

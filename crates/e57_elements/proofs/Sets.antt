@@ -5,7 +5,7 @@ use Rattle.e57_pieces.specs.declared.piece.Attr.{Attr}
 use Rattle.e57_elements.specs.declared.tree.RawNode.{RawNode}
 use Rattle.e57_elements.specs.Making.{TreeSoFar, started, add_attr, set_text, set_size, ChangesLast, Ends, IsInnermost, MayStart, MayAttr, MayText, IsLawfulSoFar}
 use Rattle.e57_elements.proofs.Makes.{so_far, started_lawful, Last, last_is, attr_lawful, text_lawful, Begun, some_begun, ended_lawful, ended_is}
-use Rattle.e57_elements.proofs.Nodes.{snoc_same}
+use Rattle.e57_elements.proofs.Lists.{snoc_same}
 
 pub ok_or_err : {E : Type 0} (P Q : Type 0) (r : Result (Unit {0}) E) → OnOk r P → OnErr r Q → P ⊎ Q
 ok_or_err P Q (Ok x) f g = inl f

@@ -22,6 +22,7 @@ use Rattle.e57_elements.specs.Nested.{only_space, IsTextual, AreTexts, kept, IsE
 use Rattle.e57_elements.specs.Lawful.{IsLawfulAttr, IsLawfulNode, IsLawful}
 use Rattle.e57_elements.specs.Spelling.{text_byte, value_byte, written, attrs_spelling, is_bare, element_spelling, elements_spelling, spelling}
 use Rattle.e57_elements.specs.Spells.{Spells}
+use Rattle.e57_elements.proofs.Lists.{all-parts}
 use Rattle.e57_elements.proofs.Elements.{length-preorder, size_some}
 use Rattle.e57_elements.proofs.Escapes.{text_means, value_means, low_characters, are_low, text_characters, value_characters}
 
@@ -167,10 +168,6 @@ abbrev mutual
 abbrev AllLawful : List RawNode → Type 0
 AllLawful nodes = AllByRecursion IsLawfulNode nodes
 
-all_parts : (xs ys : List RawNode) → AllLawful (xs ++ ys) → AllLawful xs × AllLawful ys
-all_parts [] ys h = (tt, h)
-all_parts (x ∷ xs) ys h = let p = all_parts xs ys h.1 in ((h.0, p.0), p.1)
-
 -- after a text stands a tag
 tag_after : (children : Elements) (name rest : List ℕ) → (others : List ℕ) × (elements_spelling children ++ (60 ∷ 47 ∷ (name ++ (62 ∷ rest))) ≡ 60 ∷ others)
 tag_after none name rest = (47 ∷ (name ++ (62 ∷ rest)), refl)
@@ -230,7 +227,7 @@ mutual
   elements_front : (es : Elements) (rest : List ℕ) → AllLawful (preorder_all es) → IsFront (elements_spelling es ++ rest) (elements_pieces es) rest
   elements_front none rest h = refl
   elements_front (more e es) rest h =
-      let p = all_parts (preorder e) (preorder_all es) h in
+      let p = all-parts IsLawfulNode (preorder e) (preorder_all es) h in
       subst (λ t. IsFront t (element_pieces e ++ elements_pieces es) rest) (sym (append_assoc (element_spelling e) (elements_spelling es) rest))
       (IsFront-append (element_pieces e) (elements_pieces es) (element_spelling e ++ (elements_spelling es ++ rest)) (elements_spelling es ++ rest) rest
       (element_front e (elements_spelling es ++ rest) p.0) (elements_front es rest p.1))
@@ -265,7 +262,7 @@ mutual
   content_nests : (es : Elements) (text : List ℕ) → AllLawful (preorder_all es) → IsContent es (text_pieces text ++ elements_pieces es) text
   content_nests none text h = subst (λ ps. AreTexts ps text) (sym (append-nil (text_pieces text))) (are_texts text)
   content_nests (more e es) text h =
-      let p = all_parts (preorder e) (preorder_all es) h in
+      let p = all-parts IsLawfulNode (preorder e) (preorder_all es) h in
       (text_pieces text, element_pieces e, elements_pieces es, text, [], refl, sym (append-nil text), are_texts text, element_nests e p.0, content_nests es [] p.1)
 
 -- ---- the whole

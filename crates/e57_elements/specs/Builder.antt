@@ -1,5 +1,5 @@
 -- What the builder of a tree keeps of the machine's state.
-use Rattle.std.specs.Prelude.{◌≡◌, ℕ, ◌+◌, ◌^◌, ◌≤◌, nat_lt, ◌&&◌, Bool, true, false, List, [], ◌∷◌, ◌++◌, length, Option, Some, None, Result, Ok, Err, if◌then◌else◌}
+use Rattle.std.specs.Prelude.{◌≡◌, ℕ, ◌+◌, ◌^◌, ◌≤◌, nat_lt, ◌&&◌, Bool, true, false, List, [], ◌∷◌, ◌++◌, length, Some, None, Result, Ok, Err, if◌then◌else◌}
 use Rattle.e57_base.specs.declared.fault.TextFault.{TextFault}
 use Rattle.e57_base.specs.declared.fault.TextFault.TheVariants as failure
 use Rattle.e57_base.specs.declared.kind.Kind.TheVariants as kind

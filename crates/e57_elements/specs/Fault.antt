@@ -90,8 +90,8 @@ pub record IsBodyFault (len : ℕ) (body : List ℕ) (fault : Fault) : Type 0 wh
   pub is_front : IsFront body before here
   pub are_sound : AreSound before
   pub is_fault :
-    ((piece : Piece) × (rest : List ℕ) × IsNext here piece rest × IsPieceFault before piece (len - length here) fault)
-    ⊎ (NoPiece here × IsStopFault before here (len - length here) fault)
+      ((piece : Piece) × (rest : List ℕ) × IsNext here piece rest × IsPieceFault before piece (len - length here) fault)
+      ⊎ (NoPiece here × IsStopFault before here (len - length here) fault)
 
 -- The first fault: the text isn't UTF-8; or a declaration is missing; or else it is the first of the pieces.
 abbrev pub IsFirstFault : List ℕ → Fault → Type 0

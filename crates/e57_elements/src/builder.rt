@@ -4,11 +4,20 @@ ghost use Rattle.std.specs.Prelude.{◌≡◌, ◌^◌, ◌<◌, ◌≤◌, ◌�
 ghost use Rattle.e57_base.specs.declared.fault.TextFault.TheVariants.{Refused};
 ghost use Rattle.e57_elements.specs.Fault.{fault_at};
 
-use crate::text::{is_only_space, TextOut};
+use crate::text::{TextOut, is_only_space};
 use crate::tree::{RawNode, RawTree};
 use e57_base::{Fault, Kind, Octets, TextFault};
 use e57_pieces::{Attrs, Piece};
 use std::alloc::{AllocError, AllocFailed, Global};
+
+/// The most attributes that a tag may have.
+const MAX_ATTRS: usize = 64;
+
+/// The most elements that may be open within one another; the root has depth 1.
+const MAX_DEPTH: usize = 64;
+
+/// The most elements of a tree.
+const MAX_NODES: usize = 1 << 20;
 
 /// An open element: where its node stands, and its text so far.
 #[derive(Drop)]
@@ -25,11 +34,9 @@ impl Mark {
     fn end(self, nodes: &mut Vec<RawNode>)
         requires within { self.place < length nodes.old.items }
         requires few { length nodes.old.items ≤ 2 ^ 20 }
-        ensures {
-            (before : List RawNode) (node : RawNode) (below : List RawNode)
+        ensures { (before : List RawNode) (node : RawNode) (below : List RawNode)
             → nodes.old.items ≡ before ++ node ∷ below → length before ≡ self.place
-            → nodes.new.items ≡ before ++ ended_node node below self.text ∷ below
-        }
+            → nodes.new.items ≡ before ++ ended_node node below self.text ∷ below }
     {
         let size = nodes.len() - self.place;
         let text = self.text.beside(size > 1);
@@ -140,13 +147,13 @@ impl Builder {
         if self.done {
             return Err(Stop::Nest);
         }
-        if attrs > 64 {
+        if attrs > MAX_ATTRS {
             return Err(Stop::Limit(1));
         }
-        if self.marks.len() >= 64 {
+        if self.marks.len() >= MAX_DEPTH {
             return Err(Stop::Limit(2));
         }
-        if self.nodes.len() >= 1 << 20 {
+        if self.nodes.len() >= MAX_NODES {
             return Err(Stop::Limit(3));
         }
         Ok(())

@@ -3,6 +3,8 @@
 
 mod builder;
 mod read;
+#[cfg(test)]
+mod tests;
 mod text;
 mod tree;
 mod tree_out;

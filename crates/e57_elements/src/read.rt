@@ -8,10 +8,10 @@ ghost use Rattle.e57_elements.specs.Spells.{Spells, Reads};
 ghost use Rattle.e57_elements.specs.Fault.{IsFirstFault, IsReadFault};
 ghost use Rattle.e57_elements.specs.Builder.{ReadsBody, IsBodyFailure};
 
-use crate::builder::{refused, Builder};
+use crate::builder::{Builder, refused};
 use crate::tree::RawTree;
 use e57_base::{Kind, TextFault};
-use e57_pieces::{valid_len, Pieces};
+use e57_pieces::{Pieces, valid_len};
 use std::alloc::Global;
 
 /// Reads the tree that a text spells, of at most 2^26 bytes. Refused: the text's first fault of the kinds `XmlUtf8`,
@@ -53,5 +53,4 @@ pub fn one_answer()
     ensures tree { (text : List ℕ) (a b : Element) → Spells text a → Spells text b → a ≡ b }
     ensures fault { (text : List ℕ) (a b : Fault) → IsFirstFault text a → IsFirstFault text b → a ≡ b }
     ensures either { (text : List ℕ) (tree : Element) (fault : Fault) → Spells text tree → IsLawful tree → IsFirstFault text fault → ⊥ }
-{
-}
+{}

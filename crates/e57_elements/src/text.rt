@@ -55,6 +55,5 @@ impl TextOut {
 pub fn is_only_space(text: &[u8]) -> bool
     ensures { result ≡ only_space text.now }
 {
-    text.iter()
-        .all(|b| *b == b' ' || *b == b'\t' || *b == b'\r' || *b == b'\n')
+    text.iter().all(|b| *b == b' ' || *b == b'\t' || *b == b'\r' || *b == b'\n')
 }

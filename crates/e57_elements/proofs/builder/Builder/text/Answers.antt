@@ -1,4 +1,4 @@
-use Rattle.std.proofs.Common.{ℕ, ◌-◌, List, ◌++◌, ap, sym, refl, ◌∙◌, arith}
+use Rattle.std.proofs.Common.{ℕ, ◌-◌, List, ◌++◌, ap, refl, ◌∙◌, arith}
 use Rattle.std.specs.Vec.{with_item}
 use Rattle.e57_elements.proofs.Builds.{text_takes}
 use Rattle.e57_elements.proofs.builder.Builder.text.Goals as goal
