@@ -1,11 +1,10 @@
 -- The elements that are still to be written.
-use Rattle.std.proofs.Common.{◌≡◌, ℕ, suc, ◌+◌, ◌-◌, ◌^◌, ◌<◌, ◌≤◌, ◌⊎◌, inl, inr, Bool, true, false, cond, eqb, List, [], ◌∷◌, ◌++◌, length, get_or, drop, codes, Option, Some, Result, Ok, Err, slice_get, refl, sym, ap, subst, ◌∙◌, append_assoc, length-append, length-drop, add-zero, arith}
+use Rattle.std.proofs.Common.{◌≡◌, ℕ, ◌+◌, ◌<◌, ◌≤◌, Bool, true, false, cond, eqb, List, [], ◌∷◌, ◌++◌, length, get_or, drop, codes, Some, Result, Ok, Err, slice_get, refl, sym, ap, ◌∙◌, append_assoc, length-append, length-drop, add-zero, arith}
 use Rattle.std.proofs.lemmas.List.{append-nil, get_or-drop, drop-drop}
 use Rattle.std.proofs.lemmas.Bool.{eqb-true}
 use Rattle.std.proofs.lemmas.Option.{get_or_from_slice_get}
 use Rattle.std.proofs.Math.Seq.{drop-append_seam}
 use Rattle.std.specs.Result.{OnOk}
-use Rattle.e57_pieces.specs.declared.piece.Attr.{Attr}
 use Rattle.e57_elements.specs.declared.tree.RawNode.{RawNode}
 use Rattle.e57_elements.specs.Tree.{Element, element, Elements, none, more, preorder, preorder_all}
 use Rattle.e57_elements.specs.Spelling.{text_byte, written, attrs_spelling, is_bare, element_spelling, elements_spelling, spelling}

@@ -1,13 +1,13 @@
 -- Bytes as they are written: what they mean, and that they are characters.
-use Rattle.std.proofs.Common.{◌≡◌, ℕ, ◌+◌, ◌/◌, ◌%◌, ◌<◌, ◌≤◌, Bool, true, false, cond, not, ◌||◌, ◌&&◌, eqb, ltb, inl, inr, List, [], ◌∷◌, ◌++◌, length, codes, refl, sym, ap, subst, ◌∙◌, arith}
-use Rattle.std.proofs.lemmas.Bool.{eqb-true, eqb-false, ne_eqb, ltb-true, ltb-false}
+use Rattle.std.proofs.Common.{◌≡◌, ℕ, ◌+◌, ◌/◌, ◌<◌, ◌≤◌, Bool, true, false, cond, not, ◌||◌, ◌&&◌, eqb, ltb, inl, inr, List, [], ◌∷◌, ◌++◌, codes, refl, sym, ap, subst, ◌∙◌, arith}
+use Rattle.std.proofs.lemmas.Bool.{eqb-true, ne_eqb, ltb-true}
 use Rattle.std.proofs.lemmas.List.{append-nil}
 use Rattle.std.proofs.lemmas.Str.{encode_ascii}
-use Rattle.std.specs.List.{AllByRecursion, list_all}
+use Rattle.std.specs.List.{AllByRecursion}
 use lib.Utf8.{encode, encodes, next}
-use Rattle.e57_pieces.specs.Characters.{is_character, between, AreCharacters}
+use Rattle.e57_pieces.specs.Characters.{is_character, AreCharacters}
 use Rattle.e57_pieces.specs.Words.{is_decimal, is_plain, number, number_from}
-use Rattle.e57_pieces.specs.Grammar.{IsNumbered, IsReference, IsPart, Means}
+use Rattle.e57_pieces.specs.Grammar.{IsReference, IsPart, Means}
 use Rattle.e57_pieces.specs.Laws.Characters.{AreCharacters-append, AreCharacters-nil, tested, and_true}
 use Rattle.e57_pieces.specs.Laws.References.{Means-append, Means-nil, Means-part}
 use Rattle.e57_elements.specs.Spelling.{text_byte, value_byte, written}

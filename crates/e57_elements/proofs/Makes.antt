@@ -1,18 +1,15 @@
 -- What the calls that make a tree leave of it is lawful so far.
-use Rattle.std.proofs.Common.{◌≡◌, ℕ, suc, ◌+◌, ◌-◌, ◌^◌, ◌<◌, ◌≤◌, max, ◌⊎◌, inl, inr, Bool, true, false, cond, List, [], ◌∷◌, ◌++◌, length, get_or, set, Option, Some, None, refl, sym, ap, subst, ◌∙◌, append_assoc, length-append, arith}
+use Rattle.std.proofs.Common.{◌≡◌, ℕ, ◌+◌, ◌-◌, ◌^◌, ◌<◌, ◌≤◌, max, ◌⊎◌, inl, inr, true, List, [], ◌∷◌, ◌++◌, length, get_or, set, refl, sym, ap, subst, ◌∙◌, append_assoc, length-append, arith}
 use Rattle.std.proofs.lemmas.List.{append-nil}
 use Rattle.std.proofs.Math.Seq.{set-append_seam, get_or-append_seam}
 use Rattle.std.specs.List.{AllByRecursion}
-use Rattle.e57_pieces.specs.declared.piece.Attr.{Attr}
 use Rattle.e57_pieces.specs.Characters.{AreCharacters}
-use Rattle.e57_pieces.specs.Words.{IsName}
-use Rattle.e57_pieces.specs.Grammar.{differ}
 use Rattle.e57_elements.specs.declared.tree.RawNode.{RawNode}
-use Rattle.e57_elements.specs.Tree.{Element, element, Elements, none, more, preorder, preorder_all, depth, depth_all}
+use Rattle.e57_elements.specs.Tree.{Element, Elements, none, more, preorder, preorder_all, depth_all}
 use Rattle.e57_elements.specs.Nested.{only_space}
-use Rattle.e57_elements.specs.Lawful.{IsLawfulAttr, IsLawfulNode, IsLawful, AreNodes}
+use Rattle.e57_elements.specs.Lawful.{IsLawfulAttr, IsLawfulNode, AreNodes}
 use Rattle.e57_elements.specs.Machine.{Open, State, reading, done, join, begin, with_child, put}
-use Rattle.e57_elements.specs.Making.{TreeSoFar, started, add_attr, set_text, set_size, ChangesLast, Ends, IsInnermost, MayStart, MayAttr, MayText, begun_nodes, begun_places, made, MayHaveChild, AreBegun, IsMade, IsLawfulSoFar}
+use Rattle.e57_elements.specs.Making.{TreeSoFar, started, add_attr, set_text, set_size, IsInnermost, MayStart, MayAttr, MayText, begun_nodes, begun_places, made, MayHaveChild, AreBegun, IsMade, IsLawfulSoFar}
 use Rattle.e57_elements.proofs.Lists.{all-joined, snoc_same, snoc_some}
 use Rattle.e57_elements.proofs.Nodes.{preorder_all-join}
 use Rattle.e57_elements.proofs.Elements.{length-preorder, size_some}
@@ -126,8 +123,13 @@ started_lawful tree name h may = go h.state h.is_made where
         is_made = (
           ap (λ ns. ns ++ begun_node (begin name []) ∷ []) nodes,
           ap (λ ps. ps ++ length tree.nodes ∷ []) begun ∙ ap (λ ns. begun_places opens ++ length ns ∷ []) nodes,
-          ((record { is_name = may.is_name; name = may.characters; each = tt; names_differ = refl; few_attrs = omega arith; text = record { numbers = []; each = tt; spelled = refl }; no_space = λ size space. refl }, tt),
-          omega arith, may_have tree name opens nodes begun may, are));
+          (
+            (record { is_name = may.is_name; name = may.characters; each = tt; names_differ = refl; few_attrs = omega arith; text = record { numbers = []; each = tt; spelled = refl }; no_space = λ size space. refl }, tt),
+            omega arith,
+            may_have tree name opens nodes begun may,
+            are,
+          ),
+        );
         not_large = let l = length-append tree.nodes (begun_node (begin name []) ∷ []) in let f = may.few_nodes in omega arith;
       }
   go (done e) (nodes, begun, each, deep) = absurd (not_done tree name e nodes begun may)
@@ -150,14 +152,15 @@ changed_lawful tree places before node new h at_places at_nodes same_size keeps 
     let size : new.size ≡ 0 = same_size ∙ ap (λ (x : RawNode). x.size) w.inner.node_is in
     let is : new ≡ begun_node now = ap (λ k. set_size k new) size in
     let alone : IsLawfulNode (set_size 1 (begun_node top)) =
-      subst (λ cs. IsLawfulNode (record { name = top.name; attrs = top.attrs; text = top.text; size = length (preorder_all cs) + 1 })) childless w.are_begun.0.0 in
+    subst (λ cs. IsLawfulNode (record { name = top.name; attrs = top.attrs; text = top.text; size = length (preorder_all cs) + 1 })) childless w.are_begun.0.0 in
     let old : IsLawfulNode (set_size 1 node) = subst (λ x. IsLawfulNode (set_size 1 x)) (sym w.inner.node_is) alone in
     record {
       state = reading (now ∷ w.outer);
       is_made = (
         ap (λ ns. ns ++ new ∷ []) w.inner.before_is ∙ ap (λ x. begun_nodes w.outer ++ x ∷ []) is,
         at_places ∙ ap (λ ps. ps ++ length before ∷ []) w.inner.places_are ∙ ap (λ ns. begun_places w.outer ++ length ns ∷ []) w.inner.before_is,
-        ((keeps old, tt), (let d = w.are_begun.1 in omega arith), w.are_begun.2, w.are_begun.3));
+        ((keeps old, tt), (let d = w.are_begun.1 in omega arith), w.are_begun.2, w.are_begun.3),
+      );
       not_large = let a = length-append before (node ∷ []) in let b = length-append before (new ∷ []) in let f = ap length at_nodes in let l = h.not_large in omega arith;
     }
 
@@ -218,29 +221,34 @@ depth_all-join (more c cs) ds = let h = depth_all-join cs ds in omega arith
 
 -- an element that may have a child and has got one
 with_child_lawful : (next : Open) (e : Element) → AllLawful (preorder (made next)) → (only_space next.text ≡ true → next.text ≡ []) → AllLawful (preorder e) → AllLawful (preorder (made (with_child e next)))
-with_child_lawful next e h may below =
-    (record { is_name = h.0.is_name; name = h.0.name; each = h.0.each; names_differ = h.0.names_differ; few_attrs = h.0.few_attrs; text = h.0.text; no_space = λ size space. may space },
-    subst (λ ns. AllLawful ns) (sym (preorder_all-join next.children (more e none))) (all-joined IsLawfulNode (preorder_all next.children) (preorder_all (more e none)) h.1 (all-joined IsLawfulNode (preorder e) [] below tt)))
+with_child_lawful next e h may below = (
+  record { is_name = h.0.is_name; name = h.0.name; each = h.0.each; names_differ = h.0.names_differ; few_attrs = h.0.few_attrs; text = h.0.text; no_space = λ size space. may space },
+  subst (λ ns. AllLawful ns) (sym (preorder_all-join next.children (more e none))) (all-joined IsLawfulNode (preorder_all next.children) (preorder_all (more e none)) h.1 (all-joined IsLawfulNode (preorder e) [] below tt)),
+)
 
 put_made : (top : Open) (outer : List Open) (places : List ℕ) (before : List RawNode) (node : RawNode) (below : List RawNode) → Inner top outer places before node below → AreBegun (top ∷ outer)
     → IsMade (put (made top) outer) (so_far (before ++ set_size (length below + 1) node ∷ below) places)
-put_made top [] places before node below i are =
-    (ap (λ ns. ns ++ set_size (length below + 1) node ∷ below) i.before_is
-    ∙ ap (λ x. set_size (length below + 1) x ∷ below) i.node_is
-    ∙ ap (λ ns. set_size (length ns + 1) (begun_node top) ∷ ns) i.below_is,
-    i.places_are, are.0, let d = are.1 in omega arith)
+put_made top [] places before node below i are = (
+  ap (λ ns. ns ++ set_size (length below + 1) node ∷ below) i.before_is
+      ∙ ap (λ x. set_size (length below + 1) x ∷ below) i.node_is
+      ∙ ap (λ ns. set_size (length ns + 1) (begun_node top) ∷ ns) i.below_is,
+  i.places_are,
+  are.0,
+  let d = are.1 in omega arith,
+)
 put_made top (next ∷ outer) places before node below i are =
     let e = made top in
     let deep = are.1 in
     let next_deep = are.3.1 in
-    let j = depth_all-join next.children (more e none) in
-    (ap (λ ns. ns ++ set_size (length below + 1) node ∷ below) i.before_is
-    ∙ ap (λ x. begun_nodes (next ∷ outer) ++ set_size (length below + 1) x ∷ below) i.node_is
-    ∙ ap (λ ns. begun_nodes (next ∷ outer) ++ set_size (length ns + 1) (begun_node top) ∷ ns) i.below_is
-    ∙ append_assoc (begun_nodes outer) (begun_node next ∷ preorder_all next.children) (preorder e)
-    ∙ ap (λ ns. begun_nodes outer ++ (begun_node next ∷ ns)) (ap (λ ns. preorder_all next.children ++ ns) (sym (append-nil (preorder e))) ∙ sym (preorder_all-join next.children (more e none))),
-    i.places_are,
-    (with_child_lawful next e are.3.0 are.2 are.0, omega arith, are.3.2, are.3.3))
+    let j = depth_all-join next.children (more e none) in (
+      ap (λ ns. ns ++ set_size (length below + 1) node ∷ below) i.before_is
+          ∙ ap (λ x. begun_nodes (next ∷ outer) ++ set_size (length below + 1) x ∷ below) i.node_is
+          ∙ ap (λ ns. begun_nodes (next ∷ outer) ++ set_size (length ns + 1) (begun_node top) ∷ ns) i.below_is
+          ∙ append_assoc (begun_nodes outer) (begun_node next ∷ preorder_all next.children) (preorder e)
+          ∙ ap (λ ns. begun_nodes outer ++ (begun_node next ∷ ns)) (ap (λ ns. preorder_all next.children ++ ns) (sym (append-nil (preorder e))) ∙ sym (preorder_all-join next.children (more e none))),
+      i.places_are,
+      (with_child_lawful next e are.3.0 are.2 are.0, omega arith, are.3.2, are.3.3),
+    )
 
 pub ended_lawful : (tree : TreeSoFar) (places : List ℕ) (before below : List RawNode) (node : RawNode) → IsLawfulSoFar tree
     → tree.begun ≡ places ++ length before ∷ [] → tree.nodes ≡ before ++ node ∷ below → IsLawfulSoFar (so_far (before ++ set_size (length below + 1) node ∷ below) places)

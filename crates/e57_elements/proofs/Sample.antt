@@ -1,11 +1,10 @@
 -- A small tree that is made: what each of its calls leaves.
-use Rattle.std.proofs.Common.{◌≡◌, ℕ, ◌+◌, ◌<◌, inl, inr, true, List, [], ◌∷◌, ◌++◌, length, codes, refl, sym, ap, subst, ◌∙◌, arith}
+use Rattle.std.proofs.Common.{◌≡◌, ℕ, inl, inr, List, [], ◌∷◌, codes, refl, sym, ap, subst, ◌∙◌, arith}
 use Rattle.e57_pieces.specs.declared.piece.Attr.{Attr}
-use Rattle.e57_pieces.specs.Characters.{is_character, AreCharacters}
-use Rattle.e57_pieces.specs.Words.{is_space, begins_name, goes_on_name, IsName}
+use Rattle.e57_pieces.specs.Characters.{is_character}
+use Rattle.e57_pieces.specs.Words.{is_space, begins_name}
 use Rattle.e57_elements.specs.declared.tree.RawNode.{RawNode}
-use Rattle.e57_elements.specs.Nested.{only_space}
-use Rattle.e57_elements.specs.Making.{TreeSoFar, started, add_attr, set_text, set_size, ChangesLast, Ends, IsInnermost, MayStart, MayAttr, MayText}
+use Rattle.e57_elements.specs.Making.{TreeSoFar, started, add_attr, set_text, set_size, ChangesLast, Ends, MayStart, MayAttr, MayText}
 use Rattle.e57_elements.proofs.Escapes.{low_characters, are_low}
 use Rattle.e57_elements.proofs.Makes.{so_far}
 

@@ -1,10 +1,10 @@
 -- What the calls that make a tree write into its nodes.
-use Rattle.std.proofs.Common.{◌≡◌, ℕ, ◌+◌, ◌-◌, ◌<◌, ◌≤◌, ◌⊎◌, inl, inr, List, [], ◌∷◌, ◌++◌, length, get_or, set, Result, Ok, Err, refl, sym, ap, subst, ◌∙◌, length-append, arith}
+use Rattle.std.proofs.Common.{◌≡◌, ℕ, ◌+◌, ◌-◌, ◌<◌, ◌⊎◌, inl, inr, List, [], ◌∷◌, ◌++◌, length, get_or, set, Result, Ok, Err, sym, ap, subst, ◌∙◌, length-append, arith}
 use Rattle.std.specs.Result.{OnOk, OnErr}
 use Rattle.e57_pieces.specs.declared.piece.Attr.{Attr}
 use Rattle.e57_elements.specs.declared.tree.RawNode.{RawNode}
-use Rattle.e57_elements.specs.Making.{TreeSoFar, started, add_attr, set_text, set_size, ChangesLast, Ends, IsInnermost, MayStart, MayAttr, MayText, IsLawfulSoFar}
-use Rattle.e57_elements.proofs.Makes.{so_far, started_lawful, Last, last_is, attr_lawful, text_lawful, Begun, some_begun, ended_lawful, ended_is}
+use Rattle.e57_elements.specs.Making.{TreeSoFar, started, add_attr, set_text, set_size, ChangesLast, Ends, MayStart, MayAttr, MayText, IsLawfulSoFar}
+use Rattle.e57_elements.proofs.Makes.{so_far, started_lawful, last_is, attr_lawful, text_lawful, some_begun, ended_lawful, ended_is}
 use Rattle.e57_elements.proofs.Lists.{snoc_same}
 
 pub ok_or_err : {E : Type 0} (P Q : Type 0) (r : Result (Unit {0}) E) → OnOk r P → OnErr r Q → P ⊎ Q
@@ -122,5 +122,5 @@ pub start_set : (tree : TreeSoFar) (nodes : List RawNode) (begun : List ℕ) (na
 start_set tree nodes begun name may is h new_nodes new_begun at_nodes at_begun =
     let f = started_lawful tree name (subst (λ t. IsLawfulSoFar t) is h) may in
     let e : so_far new_nodes new_begun ≡ started name tree =
-      ap (λ ns. so_far ns new_begun) at_nodes ∙ ap (λ ps. so_far (nodes ++ (record { name = name; attrs = []; text = []; size = 0 }) ∷ []) ps) at_begun ∙ ap (λ (t : TreeSoFar). started name t) is in
+    ap (λ ns. so_far ns new_begun) at_nodes ∙ ap (λ ps. so_far (nodes ++ (record { name = name; attrs = []; text = []; size = 0 }) ∷ []) ps) at_begun ∙ ap (λ (t : TreeSoFar). started name t) is in
     subst (λ t. IsLawfulSoFar t) (sym e) f

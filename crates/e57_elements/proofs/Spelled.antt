@@ -1,24 +1,22 @@
 -- The written spelling of a lawful tree spells it.
-use Rattle.std.proofs.Common.{◌≡◌, ℕ, ◌+◌, ◌<◌, ◌≤◌, Bool, true, false, cond, eqb, inl, inr, List, [], ◌∷◌, ◌++◌, length, codes, refl, sym, ap, subst, ◌∙◌, append_assoc, length-append, arith}
+use Rattle.std.proofs.Common.{◌≡◌, ℕ, ◌+◌, ◌<◌, Bool, true, false, cond, eqb, inl, inr, List, [], ◌∷◌, ◌++◌, length, codes, refl, sym, ap, subst, ◌∙◌, append_assoc, length-append, arith}
 use Rattle.std.proofs.lemmas.List.{append-nil}
 use Rattle.std.specs.List.{AllByRecursion}
-use Rattle.std.specs.Str.{IsUtf8, bytes_eq}
 use Rattle.e57_pieces.specs.declared.piece.Attr.{Attr}
 use Rattle.e57_pieces.specs.declared.piece.Piece.{Piece}
 use Rattle.e57_pieces.specs.declared.piece.Piece.TheVariants.{Start, Empty, End, Comment, CData, Text}
 use Rattle.e57_pieces.specs.Characters.{is_character, AreCharacters}
 use Rattle.e57_pieces.specs.Words.{is_space, begins_name, goes_on_name, is_plain, IsName}
-use Rattle.e57_pieces.specs.Grammar.{IsAttr, AreAttrs, differ, IsInside, IsTag, IsEndTag, IsRun, Spelled, IsPiece}
-use Rattle.e57_pieces.specs.Cut.{NoPiece, NoRun, IsNext, IsFront, IsCut}
-use Rattle.e57_pieces.specs.Start.{strip, declares, after_mark, encoding_fits, IsDeclaration, Begins}
-use Rattle.e57_pieces.specs.Reading.{reference_at}
+use Rattle.e57_pieces.specs.Grammar.{IsAttr, AreAttrs, differ, IsInside, IsTag, Spelled}
+use Rattle.e57_pieces.specs.Cut.{NoPiece, NoRun, IsNext, IsFront}
+use Rattle.e57_pieces.specs.Start.{strip, IsDeclaration, Begins}
 use Rattle.e57_pieces.specs.Laws.Characters.{AreCharacters-append, AreCharacters-nil, IsUtf8-AreCharacters}
 use Rattle.e57_pieces.specs.Laws.References.{NoPart, no_reference}
 use Rattle.e57_pieces.specs.Laws.Markup.{run_begins}
 use Rattle.e57_pieces.specs.Laws.Cut.{IsFront-append}
 use Rattle.e57_elements.specs.declared.tree.RawNode.{RawNode}
 use Rattle.e57_elements.specs.Tree.{Element, element, Elements, none, more, preorder, preorder_all}
-use Rattle.e57_elements.specs.Nested.{only_space, IsTextual, AreTexts, kept, IsElement, IsContent, IsOuter, Nested}
+use Rattle.e57_elements.specs.Nested.{only_space, AreTexts, kept, IsElement, IsContent}
 use Rattle.e57_elements.specs.Lawful.{IsLawfulAttr, IsLawfulNode, IsLawful}
 use Rattle.e57_elements.specs.Spelling.{text_byte, value_byte, written, attrs_spelling, is_bare, element_spelling, elements_spelling, spelling}
 use Rattle.e57_elements.specs.Spells.{Spells}

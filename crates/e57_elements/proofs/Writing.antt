@@ -1,9 +1,9 @@
 -- What is written so far.
-use Rattle.std.proofs.Common.{◌≡◌, ℕ, suc, ◌+◌, ◌<◌, ◌≤◌, List, [], ◌∷◌, ◌++◌, length, get_or, take, Option, Some, slice_get, refl, sym, ap, ◌∙◌, append_assoc, length-append, arith}
+use Rattle.std.proofs.Common.{◌≡◌, ℕ, ◌+◌, ◌<◌, List, [], ◌∷◌, ◌++◌, length, get_or, take, Some, slice_get, refl, sym, ap, ◌∙◌, append_assoc}
 use Rattle.std.proofs.lemmas.List.{append-nil, take_more}
 use Rattle.std.proofs.lemmas.Option.{get_or_from_slice_get}
 use Rattle.e57_pieces.specs.declared.piece.Attr.{Attr}
-use Rattle.e57_elements.specs.Spelling.{text_byte, value_byte, written, attrs_spelling}
+use Rattle.e57_elements.specs.Spelling.{value_byte, written, attrs_spelling}
 
 pub written-append : (byte : ℕ → List ℕ) (xs ys : List ℕ) → written byte (xs ++ ys) ≡ written byte xs ++ written byte ys
 written-append byte [] ys = refl

@@ -1,7 +1,6 @@
 -- A tree that is made by calls, one node after another in preorder.
 use Rattle.std.specs.Prelude.{◌≡◌, ℕ, ◌+◌, ◌^◌, ◌<◌, ◌≤◌, true, ◌⊎◌, List, [], ◌∷◌, ◌++◌, length}
 use Rattle.std.specs.List.{AllByRecursion}
-use Rattle.e57_pieces.specs.declared.piece.Attr.{Attr}
 use Rattle.e57_pieces.specs.Characters.{AreCharacters}
 use Rattle.e57_pieces.specs.Words.{IsName}
 use Rattle.e57_pieces.specs.Grammar.{differ}

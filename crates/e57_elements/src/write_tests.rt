@@ -1,6 +1,6 @@
 //! Written spellings of trees that are read and of one that is made.
 
-use crate::{read_elements, write_elements, TreeOut};
+use crate::{TreeOut, read_elements, write_elements};
 use std::alloc::{AllocError, Global};
 use std::test::Fail;
 
@@ -32,7 +32,10 @@ fn spellings(rt: HostRuntime) -> Result<(), Fail> {
     for (text, want) in rows.iter() {
         let found = written(rt.alloc(), text.as_bytes())?;
         let (front, root) = found.as_slice().split_at(found.len().min(39));
-        assert_eq!(rt; front, b"<?xml version=\"1.0\" encoding=\"UTF-8\"?>\n".as_slice());
+        assert_eq!(rt;
+            front,
+            b"<?xml version=\"1.0\" encoding=\"UTF-8\"?>\n".as_slice()
+        );
         assert_eq!(rt; root, want.as_bytes(), "{text}");
     }
     Ok(())

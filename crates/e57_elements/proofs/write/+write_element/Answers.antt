@@ -1,8 +1,7 @@
-use Rattle.std.proofs.Common.{ℕ, List, ◌<◌, ◌+◌, ◌≤◌, length, refl, sym, ap, ◌∙◌, eqb, true, false, ◌≡◌, ◌++◌, codes, rules, arith}
+use Rattle.std.proofs.Common.{ℕ, List, ◌+◌, length, sym, ap, ◌∙◌, eqb, true, false, ◌≡◌, ◌++◌, codes, rules, arith}
 use Rattle.e57_elements.specs.Spelling.{text_byte, written}
-use Rattle.e57_elements.specs.Tree.{Element}
 use Rattle.e57_elements.specs.declared.tree.RawNode.{RawNode}
-use Rattle.e57_elements.proofs.Elements.{children_of, root, bare, stands_within, size_some, node_is, all_left, next_left, next_stands, fewer_left, none_left, is_bare_node, not_bare_size, not_bare_text, bare_written, full_written, on_ok}
+use Rattle.e57_elements.proofs.Elements.{children_of, root, bare, stands_within, size_some, node_is, all_left, next_stands, fewer_left, none_left, is_bare_node, not_bare_size, not_bare_text, bare_written, full_written, on_ok}
 use Rattle.e57_elements.proofs.write.+write_element.Goals.{else-node-eq-LEAF-via-then-node-eq-LEAF+else-is_empty, else-node-eq-LEAF-via-else-node-eq-LEAF}
 use Rattle.e57_elements.proofs.write.+write_element.Goals as goal
 

@@ -1,4 +1,4 @@
-use Rattle.std.proofs.Common.{◌<◌, length, arith}
+use Rattle.std.proofs.Common.{arith}
 use Rattle.e57_elements.specs.Spelling.{value_byte}
 use Rattle.e57_elements.proofs.Writing.{written_more}
 use Rattle.e57_elements.proofs.write.write_value.Goals as goal

@@ -1,4 +1,4 @@
-use Rattle.std.proofs.Common.{◌≡◌, ◌<◌, List, [], ◌∷◌, length, codes, sym, ap, subst, rules, arith}
+use Rattle.std.proofs.Common.{◌≡◌, ◌<◌, [], length, codes, sym, ap, subst, rules, arith}
 use Rattle.e57_elements.specs.Making.{TreeSoFar}
 use Rattle.e57_elements.proofs.Makes.{so_far}
 use Rattle.e57_elements.proofs.Sample.{may_start_first, first, may_attr_first, second, may_text_first, third, may_start_second, fourth, fifth, sixth}

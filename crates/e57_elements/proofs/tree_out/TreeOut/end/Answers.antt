@@ -1,4 +1,4 @@
-use Rattle.std.proofs.Common.{ℕ, List, [], ◌∷◌, ◌++◌, ◌≡◌, ◌<◌, length, inl, inr, refl, sym, ap, subst, ◌∙◌, Option, rules, arith}
+use Rattle.std.proofs.Common.{ℕ, ◌++◌, ◌≡◌, length, refl, ap, ◌∙◌, Option, arith}
 use Rattle.std.specs.Option.{option_to_list}
 use Rattle.e57_elements.proofs.Sets.{taken, end_set, ends}
 use Rattle.e57_elements.proofs.tree_out.TreeOut.end.Goals as goal
@@ -28,4 +28,4 @@ returns c outer before below node at_places at_nodes =
     let popped = c.pop.ensures.items ∙ ap (λ (o : Option ℕ). c.pop.new.self.items ++ option_to_list o) c.unwrap-place.ensures in
     let is_len : c.len.result ≡ length c.self.inside.nodes.items = omega arith in
     ends c.args.self.now _ c.self.inside.nodes.items c.self.inside.begun.items c.pop.new.self.items c.unwrap-place.result c.len.result c.index_mut.result.now
-      c.self.view_is popped is_len c.index_mut.ensures.value refl outer before below node at_places at_nodes
+    c.self.view_is popped is_len c.index_mut.ensures.value refl outer before below node at_places at_nodes
