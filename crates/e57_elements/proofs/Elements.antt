@@ -1,11 +1,10 @@
 -- The elements that are still to be written.
-use Rattle.std.proofs.Common.{◌≡◌, ℕ, suc, ◌+◌, ◌-◌, ◌^◌, ◌<◌, ◌≤◌, ◌⊎◌, inl, inr, Bool, true, false, cond, eqb, List, [], ◌∷◌, ◌++◌, length, get_or, drop, codes, Option, Some, Result, Ok, Err, slice_get, refl, sym, ap, subst, ◌∙◌, append_assoc, length-append, length-drop, add-zero, arith}
+use Rattle.std.proofs.Common.{◌≡◌, ℕ, ◌+◌, ◌<◌, ◌≤◌, Bool, true, false, cond, eqb, List, [], ◌∷◌, ◌++◌, length, get_or, drop, codes, Some, Result, Ok, Err, slice_get, refl, sym, ap, ◌∙◌, append_assoc, length-append, length-drop, add-zero, arith}
 use Rattle.std.proofs.lemmas.List.{append-nil, get_or-drop, drop-drop}
 use Rattle.std.proofs.lemmas.Bool.{eqb-true}
 use Rattle.std.proofs.lemmas.Option.{get_or_from_slice_get}
 use Rattle.std.proofs.Math.Seq.{drop-append_seam}
 use Rattle.std.specs.Result.{OnOk}
-use Rattle.e57_pieces.specs.declared.piece.Attr.{Attr}
 use Rattle.e57_elements.specs.declared.tree.RawNode.{RawNode}
 use Rattle.e57_elements.specs.Tree.{Element, element, Elements, none, more, preorder, preorder_all}
 use Rattle.e57_elements.specs.Spelling.{text_byte, written, attrs_spelling, is_bare, element_spelling, elements_spelling, spelling}
@@ -157,13 +156,13 @@ not_bare_text (element name attrs (b ∷ bs) children) node is some = refl
 bare_spelling : (e : Element) → bare e ≡ true → element_spelling e ≡ codes "<" ++ ((root e).name ++ (attrs_spelling (root e).attrs ++ codes "/>"))
 bare_spelling (element name attrs text children) h =
     ap (λ b. codes "<" ++ (name ++ (attrs_spelling attrs ++ (cond b (codes "/>")
-      (codes ">" ++ (written text_byte text ++ (elements_spelling children ++ (codes "</" ++ (name ++ codes ">"))))))))) h
+    (codes ">" ++ (written text_byte text ++ (elements_spelling children ++ (codes "</" ++ (name ++ codes ">"))))))))) h
 
 full_spelling : (e : Element) → bare e ≡ false
     → element_spelling e ≡ codes "<" ++ ((root e).name ++ (attrs_spelling (root e).attrs ++ (codes ">" ++ (written text_byte (root e).text ++ (elements_spelling (children_of e) ++ (codes "</" ++ ((root e).name ++ codes ">")))))))
 full_spelling (element name attrs text children) h =
     ap (λ b. codes "<" ++ (name ++ (attrs_spelling attrs ++ (cond b (codes "/>")
-      (codes ">" ++ (written text_byte text ++ (elements_spelling children ++ (codes "</" ++ (name ++ codes ">"))))))))) h
+    (codes ">" ++ (written text_byte text ++ (elements_spelling children ++ (codes "</" ++ (name ++ codes ">"))))))))) h
 
 pub bare_written : (e : Element) (node : RawNode) (before tag new : List ℕ) → node ≡ root e → bare e ≡ true
     → tag ≡ before ++ (codes "<" ++ (node.name ++ attrs_spelling node.attrs)) → new ≡ tag ++ codes "/>" → new ≡ before ++ element_spelling e
@@ -174,8 +173,8 @@ bare_written e node before tag new is h begun closed =
     ∙ ap (λ t. t ++ codes "/>") (begun ∙ ap (λ m. before ++ (codes "<" ++ (m ++ attrs_spelling node.attrs))) n ∙ ap (λ xs. before ++ (codes "<" ++ ((root e).name ++ attrs_spelling xs))) a)
     ∙ regroup before (root e).name (attrs_spelling (root e).attrs) (codes "/>")
     ∙ ap (λ t. before ++ t) (sym (bare_spelling e h)) where
-  regroup : (w x y z : List ℕ) → (w ++ (codes "<" ++ (x ++ y))) ++ z ≡ w ++ (codes "<" ++ (x ++ (y ++ z)))
-  regroup w x y z = simp append_assoc
+      regroup : (w x y z : List ℕ) → (w ++ (codes "<" ++ (x ++ y))) ++ z ≡ w ++ (codes "<" ++ (x ++ (y ++ z)))
+      regroup w x y z = simp append_assoc
 
 form : List ℕ → List ℕ → List ℕ → List ℕ → List ℕ → List ℕ
 form before name attrs bytes inner = before ++ (codes "<" ++ (name ++ (attrs ++ (codes ">" ++ (bytes ++ (inner ++ (codes "</" ++ (name ++ codes ">"))))))))
@@ -196,7 +195,7 @@ full_written e node before tag open_tag text now new is h begun opened texted fi
     let inner = elements_spelling (children_of e) in
     ended
     ∙ ap (λ t. t ++ (codes "</" ++ (node.name ++ codes ">")))
-      (filled ∙ ap (λ t. t ++ inner) (texted ∙ ap (λ t. t ++ written text_byte node.text) (opened ∙ ap (λ t. t ++ codes ">") begun)))
+    (filled ∙ ap (λ t. t ++ inner) (texted ∙ ap (λ t. t ++ written text_byte node.text) (opened ∙ ap (λ t. t ++ codes ">") begun)))
     ∙ regroup before node.name (attrs_spelling node.attrs) (written text_byte node.text) inner
     ∙ ap (λ (x : RawNode). form before x.name (attrs_spelling x.attrs) (written text_byte x.text) inner) is
     ∙ form_is before e h

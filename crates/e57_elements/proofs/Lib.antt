@@ -7,10 +7,13 @@ mod Limits
 mod Builds
 mod Writing
 mod Elements
+mod Escapes
 mod Spelled
-mod Steps
 mod Counts
 mod Characters
 mod Lawful
 mod Reached
 mod OneAnswer
+mod Makes
+mod Sets
+mod Sample

@@ -1,9 +1,9 @@
 -- What is written so far.
-use Rattle.std.proofs.Common.{◌≡◌, ℕ, suc, ◌+◌, ◌<◌, ◌≤◌, List, [], ◌∷◌, ◌++◌, length, get_or, take, Option, Some, slice_get, refl, sym, ap, ◌∙◌, append_assoc, length-append, arith}
+use Rattle.std.proofs.Common.{◌≡◌, ℕ, ◌+◌, ◌<◌, List, [], ◌∷◌, ◌++◌, length, get_or, take, Some, slice_get, refl, sym, ap, ◌∙◌, append_assoc}
 use Rattle.std.proofs.lemmas.List.{append-nil, take_more}
 use Rattle.std.proofs.lemmas.Option.{get_or_from_slice_get}
 use Rattle.e57_pieces.specs.declared.piece.Attr.{Attr}
-use Rattle.e57_elements.specs.Spelling.{text_byte, value_byte, written, attrs_spelling}
+use Rattle.e57_elements.specs.Spelling.{value_byte, written, attrs_spelling}
 
 pub written-append : (byte : ℕ → List ℕ) (xs ys : List ℕ) → written byte (xs ++ ys) ≡ written byte xs ++ written byte ys
 written-append byte [] ys = refl
@@ -17,9 +17,9 @@ written_more byte xs i before now new within so_far next =
     ∙ ap (λ t. t ++ byte (get_or xs i 0)) so_far
     ∙ append_assoc before (written byte (take i xs)) (byte (get_or xs i 0))
     ∙ ap (λ t. before ++ t)
-      (sym (ap (written byte) (take_more xs i 0 within)
-      ∙ written-append byte (take i xs) (get_or xs i 0 ∷ [])
-      ∙ ap (λ t. written byte (take i xs) ++ t) (append-nil (byte (get_or xs i 0)))))
+    (sym (ap (written byte) (take_more xs i 0 within)
+    ∙ written-append byte (take i xs) (get_or xs i 0 ∷ [])
+    ∙ ap (λ t. written byte (take i xs) ++ t) (append-nil (byte (get_or xs i 0)))))
 
 pub attrs_spelling-append : (xs ys : List Attr) → attrs_spelling (xs ++ ys) ≡ attrs_spelling xs ++ attrs_spelling ys
 attrs_spelling-append [] ys = refl
@@ -37,5 +37,5 @@ attrs_more xs i x before now new within found so_far next =
     ∙ ap (λ t. t ++ attrs_spelling (x ∷ [])) so_far
     ∙ append_assoc before (attrs_spelling (take i xs)) (attrs_spelling (x ∷ []))
     ∙ ap (λ t. before ++ t)
-      (sym (ap attrs_spelling (take_more xs i x within ∙ ap (λ y. take i xs ++ y ∷ []) (get_or_from_slice_get xs i x x found))
-      ∙ attrs_spelling-append (take i xs) (x ∷ [])))
+    (sym (ap attrs_spelling (take_more xs i x within ∙ ap (λ y. take i xs ++ y ∷ []) (get_or_from_slice_get xs i x x found))
+    ∙ attrs_spelling-append (take i xs) (x ∷ [])))

@@ -7,3 +7,4 @@ pub mod Spelling
 pub mod Machine
 pub mod Builder
 pub mod Places
+pub mod Making

@@ -7,9 +7,13 @@ mod read;
 mod tests;
 mod text;
 mod tree;
+mod tree_out;
 mod write;
+#[cfg(test)]
+mod write_tests;
 
 pub use e57_pieces::{Attr, Attrs};
 pub use read::{one_answer, read_elements};
 pub use tree::{RawNode, RawTree};
-pub use write::write_elements;
+pub use tree_out::TreeOut;
+pub use write::{spelling_spells, write_elements};

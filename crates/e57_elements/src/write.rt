@@ -15,6 +15,9 @@ use std::alloc::{AllocError, Global};
 /// The bytes before the root.
 const DECLARATION: &[u8; 39] = b"<?xml version=\"1.0\" encoding=\"UTF-8\"?>\n";
 
+/// The size of a node without children.
+const LEAF: u32 = 1;
+
 /// The written spelling of a tree: the declaration, a line feed, and the root. An element without text and children is
 /// an empty tag; any other is a start tag, its text, its children, and an end tag. There is no CDATA and no comment.
 pub fn write_elements(alloc: Global, tree: &RawTree) -> Result<Vec<u8>, AllocError>
@@ -27,6 +30,11 @@ pub fn write_elements(alloc: Global, tree: &RawTree) -> Result<Vec<u8>, AllocErr
     Ok(out)
 }
 
+/// A law, which does nothing: the written spelling of a lawful tree spells that tree.
+pub fn spelling_spells()
+    ensures { (e : Element) → IsLawful e → Spells (spelling e) e }
+{}
+
 /// Writes the element at a place. It calls itself for the children, so at most to the depth of the tree, which is 64.
 fn write_element(out: &mut Vec<u8>, tree: &RawTree, place: usize) -> Result<(), AllocError>
     requires stands { StandsAt tree.now place }
@@ -35,7 +43,7 @@ fn write_element(out: &mut Vec<u8>, tree: &RawTree, place: usize) -> Result<(), 
 {
     let node = tree.node(place);
     write_tag(out, node)?;
-    if node.size == 1 && node.text.as_slice().is_empty() {
+    if node.size == LEAF && node.text.as_slice().is_empty() {
         out.extend_from_slice(b"/>".as_slice())?;
         return Ok(());
     }

@@ -1,5 +1,4 @@
 use Rattle.std.proofs.Common.{◌≡◌, subst, sym, rules}
-use Rattle.e57_elements.specs.Spelling.{spelling}
 use Rattle.e57_elements.specs.Spells.{Spells}
 use Rattle.e57_elements.proofs.Elements.{heading, tree_written}
 use Rattle.e57_elements.proofs.Spelled.{spelling_spells}
