@@ -9,7 +9,8 @@ mod tests;
 
 use disk_source::DiskSource;
 use disk_target::DiskTarget;
-use e57_tool::run;
+use e57_base::Sink;
+use e57_tool::{Status, run};
 use std::process::ExitCode;
 use std::{env, io};
 use std_sink::StdSink;
@@ -24,10 +25,19 @@ fn words(rt: &HostRuntime) -> io::Result<Vec<String>> {
 }
 
 fn main(rt: HostRuntime) -> ExitCode {
-    // Words that aren't text ask for nothing.
-    let words = words(&rt).unwrap_or(Vec::new(rt.alloc()));
     let mut out = StdSink::new(rt.stdout());
     let mut err = StdSink::new(rt.stderr());
+    let words = match words(&rt) {
+        Ok(words) => words,
+        Err(error) => {
+            if error.kind() == io::ErrorKind::OutOfMemory {
+                let _ = err.put(b"out of memory\n");
+                return ExitCode::from(Status::Memory.code());
+            }
+            // Words that aren't text ask for nothing.
+            Vec::new(rt.alloc())
+        }
+    };
     let source = DiskSource::new(&rt);
     let target = DiskTarget::new(&rt);
     let (status, _, _) = run(rt.alloc(), &words, source, target, &mut out, &mut err);
