@@ -1,16 +1,16 @@
 -- The faults of the XML section, from what the steps of its opening found.
-use Rattle.std.proofs.Common.{◌≡◌, ℕ, ◌+◌, ◌-◌, ◌*◌, ◌/◌, ◌^◌, ◌<◌, ◌≤◌, Bool, true, false, cond, List, [], ◌∷◌, ◌++◌, length, take, drop, Option, Some, None, inl, inr, refl, sym, ap, subst, ◌∙◌, arith, ⊎_elim}
-use Rattle.std.specs.Prelude.{IfSome, ◌⊎◌, nat_lt}
+use Rattle.std.proofs.Common.{◌≡◌, ℕ, ◌+◌, ◌-◌, ◌*◌, ◌/◌, ◌^◌, ◌<◌, ◌≤◌, Bool, true, false, cond, List, [], ◌∷◌, ◌++◌, length, take, drop, Option, Some, None, inl, inr, refl, sym, subst, arith, ⊎_elim}
+use Rattle.std.specs.Prelude.{IfSome, nat_lt}
 use Rattle.std.specs.Option.{option_or}
 use Rattle.std.proofs.lemmas.Bool.Decides.{nat_tests}
 use Rattle.e57_base.specs.Source.{SourceView, HoldsSize}
 use Rattle.e57_base.specs.declared.fault.Fault.{Fault}
 use Rattle.e57_base.specs.declared.fault.ReadFault.{ReadFault}
 use Rattle.e57_base.specs.declared.fault.ReadFault.TheVariants as read
-use Rattle.e57_base.specs.declared.fault.OpenFault.TheVariants.{Refused, Source}
+use Rattle.e57_base.specs.declared.fault.OpenFault.TheVariants.{Refused}
 use Rattle.e57_base.specs.declared.fault.TextFault.{TextFault}
 use Rattle.e57_base.specs.declared.fault.TextFault.TheVariants as text
-use Rattle.e57_base.specs.declared.kind.Kind.TheVariants.{XmlPlace, XmlLimit, Page}
+use Rattle.e57_base.specs.declared.kind.Kind.TheVariants.{XmlPlace, XmlLimit}
 use Rattle.e57_page.specs.declared.header.Header.{Header}
 use Rattle.e57_page.specs.declared.pages.Cut.{Cut}
 use Rattle.e57_page.specs.Header.{fault}
@@ -25,21 +25,9 @@ use Rattle.e57_pieces.specs.Cut.{IsNext, NoPiece}
 use Rattle.e57_elements.specs.declared.tree.RawNode.{RawNode}
 use Rattle.e57_elements.specs.Spells.{Reads}
 use Rattle.e57_elements.specs.Fault.{IsFirstFault, IsReadFault, IsPieceFault, IsStopFault}
+use Rattle.e57_file.specs.Told.{told_map, told_both, length_told}
 use Rattle.e57_file.specs.Section.{place_fault, limit_fault, start_of, section_pages_fault, section_fault, section_text, IsTextFault, IsSectionPlace}
 use Rattle.e57_file.specs.Text.{AsksForSection, is_text_kind, IsTextCause, IsTextRead, IsTextNotRead, open_fault, open_text_fault}
-
--- what is held has the length that is told
-pub length_told : (held : Option (List ℕ)) (size : Option ℕ) (n : ℕ) → IfSome held (λ file. size ≡ Some (length file)) → size ≡ Some n → IfSome held (λ file. length file ≡ n)
-length_told None size n holds known = tt
-length_told (Some file) size n holds known = let same : Some (length file) ≡ Some n = sym holds ∙ known in cc
-
-told_both : (P Q R : List ℕ → Type 0) (held : Option (List ℕ)) → ((file : List ℕ) → P file → Q file → R file) → IfSome held P → IfSome held Q → IfSome held R
-told_both P Q R None f p q = tt
-told_both P Q R (Some file) f p q = f file p q
-
-told_map : (P Q : List ℕ → Type 0) (held : Option (List ℕ)) → ((file : List ℕ) → P file → Q file) → IfSome held P → IfSome held Q
-told_map P Q None f h = tt
-told_map P Q (Some file) f h = f file h
 
 -- the first of three faults
 first_of_two : (a b c : Option Fault) (found : Fault) → option_or a b ≡ Some found → option_or a (option_or b c) ≡ Some found

@@ -1,8 +1,7 @@
 -- What the opening of a file's text answers, and what it does to the source.
-use Rattle.std.specs.Prelude.{◌≡◌, ℕ, ◌/◌, Bool, true, false, List, length, Option, Some, None, IfSome}
+use Rattle.std.specs.Prelude.{◌≡◌, ℕ, ◌/◌, Bool, true, false, List, None, IfSome}
 use Rattle.e57_base.specs.Count.{Rose}
 use Rattle.e57_base.specs.Source.{SourceView}
-use Rattle.e57_base.specs.declared.fault.Fault.{Fault}
 use Rattle.e57_base.specs.declared.fault.OpenFault.{OpenFault}
 use Rattle.e57_base.specs.declared.fault.OpenFault.TheVariants.{Refused, Source, Memory}
 use Rattle.e57_base.specs.declared.fault.ReadFault.{ReadFault}

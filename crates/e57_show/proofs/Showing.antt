@@ -1,6 +1,5 @@
 -- What is shown of a text that was read.
-use Rattle.std.proofs.Common.{◌≡◌, ℕ, List, [], ◌∷◌, ◌++◌, Option, Some, None, inl, inr, refl, sym, ap, subst, ◌∙◌}
-use Rattle.std.specs.Prelude.{IfSome}
+use Rattle.std.proofs.Common.{◌≡◌, ℕ, List, [], ◌∷◌, ◌++◌, None, inl, inr, ap, ◌∙◌}
 use Rattle.e57_base.specs.Source.{SourceView}
 use Rattle.e57_base.specs.declared.fault.Fault.{Fault}
 use Rattle.e57_page.specs.declared.header.Header.{Header}
@@ -10,7 +9,8 @@ use Rattle.e57_elements.specs.Lawful.{IsLawful}
 use Rattle.e57_elements.specs.Spells.{Spells, Reads}
 use Rattle.e57_elements.specs.Spelling.{spelling}
 use Rattle.e57_elements.specs.Fault.{IsFirstFault}
-use Rattle.e57_file.specs.Section.{section_fault, section_text, IsTextFault}
+use Rattle.e57_file.specs.Told.{told_map, told_both}
+use Rattle.e57_file.specs.Section.{section_fault, section_text}
 use Rattle.e57_file.specs.Text.{IsTextRead}
 use Rattle.e57_show.specs.Info.{HasNoTextFault, IsShown, ShowsText}
 
@@ -21,14 +21,6 @@ IsEither = (text : List ℕ) (tree : Element) (fault : Fault) → Spells text tr
 no_fault : (header : Header) (file : List ℕ) (nodes : List RawNode) → IsEither → section_fault header file ≡ None → Reads (section_text header file) nodes → HasNoTextFault header file
 no_fault header file nodes either sound read found (inl early) = absurd cc
 no_fault header file nodes either sound read found (inr (before, late)) = either (section_text header file) read.tree found read.spells read.is_lawful late
-
-told_both : (P Q R : List ℕ → Type 0) (held : Option (List ℕ)) → ((file : List ℕ) → P file → Q file → R file) → IfSome held P → IfSome held Q → IfSome held R
-told_both P Q R None f p q = tt
-told_both P Q R (Some file) f p q = f file p q
-
-told_map : (P Q : List ℕ → Type 0) (held : Option (List ℕ)) → ((file : List ℕ) → P file → Q file) → IfSome held P → IfSome held Q
-told_map P Q None f h = tt
-told_map P Q (Some file) f h = f file h
 
 pub shows : (header : Header) (kept : ℕ) (old new : SourceView) (nodes : List RawNode) (bytes text : List ℕ) → IsEither → IsTextRead header kept old nodes new → ((e : Element) → nodes ≡ preorder e → bytes ≡ spelling e) → text ≡ bytes ++ 10 ∷ [] → ShowsText header kept old text new
 shows header kept old new nodes bytes text either read spelled whole =

@@ -1,5 +1,5 @@
 -- A file is opened for a command, and its source then gives pages.
-use Rattle.std.proofs.Common.{◌≡◌, ℕ, ◌≤◌, Bool, true, false, cond, List, [], ◌∷◌, length, Option, Some, None, Result, Ok, Err, inl, inr, refl, sym, ap, subst, ◌∙◌, arith}
+use Rattle.std.proofs.Common.{◌≡◌, ℕ, ◌≤◌, Bool, true, false, cond, List, [], length, Option, Some, None, Result, Ok, Err, inl, inr, refl, sym, ap, subst, ◌∙◌, arith}
 use Rattle.std.specs.Prelude.{IfSome, MatchOption}
 use Rattle.std.specs.Option.{option_or}
 use Rattle.std.specs.FinMap.{get}
@@ -14,6 +14,7 @@ use Rattle.e57_page.specs.declared.header.Header.{Header}
 use Rattle.e57_page.specs.Header.{header_of, fault}
 use Rattle.e57_page.specs.File.{length_fault, opening_fault}
 use Rattle.e57_page.specs.Pages.{AsksFor, is_opening_kind, IsOpened, IsNotOpened, IsRefusedByPage}
+use Rattle.e57_file.specs.Told.{told_map, told_here, length_told}
 use Rattle.e57_tool.specs.Run.{OpensOnce, IsOpen}
 use Rattle.e57_tool.specs.Opening.{IsOpenedFile, IsRefusedFile, IsUnopenedFile}
 
@@ -59,25 +60,6 @@ open_later old mid new name file same =
       held = held_still old.stock name mid.held new.held same.held file.held;
     }
 
-pub told_here : (P : List ℕ → Type 0) (before now : Option (List ℕ)) → now ≡ before → IfSome before P → IfSome now P
-told_here P None None same h = tt
-told_here P None (Some now) same h = absurd cc
-told_here P (Some before) None same h = tt
-told_here P (Some before) (Some now) same h = let e : now ≡ before = cc in subst P (sym e) h
-
-pub told_map : (P Q : List ℕ → Type 0) (held : Option (List ℕ)) → ((file : List ℕ) → P file → Q file) → IfSome held P → IfSome held Q
-told_map P Q None f h = tt
-told_map P Q (Some file) f h = f file h
-
-pub told_both : (P Q R : List ℕ → Type 0) (held : Option (List ℕ)) → ((file : List ℕ) → P file → Q file → R file) → IfSome held P → IfSome held Q → IfSome held R
-told_both P Q R None f p q = tt
-told_both P Q R (Some file) f p q = f file p q
-
--- the held file has the length that was told
-length_told : (held : Option (List ℕ)) (size : Option ℕ) (n : ℕ) → size ≡ Some n → IfSome held (λ file. size ≡ Some (length file)) → IfSome held (λ file. length file ≡ n)
-length_told None size n known holds = tt
-length_told (Some file) size n known holds = let same : Some (length file) ≡ Some n = sym holds ∙ known in cc
-
 -- the fault of a length is one that an opening can have
 length_kind : (n : ℕ) (found : Fault) → length_fault n ≡ Some found → is_opening_kind found.kind ≡ true
 unfolding length_fault
@@ -98,7 +80,7 @@ opened_file old mid new name size told kept header opens holds opened first =
       asked = asked_here old.asked mid.asked new.asked _ opens.asked opened.source.asked;
       first = first;
       sound = told_here (λ file. opening_fault file ≡ None) mid.held new.held same.held opened.first;
-      long = told_here (λ file. length file ≡ told) mid.held new.held same.held (told_map (λ file. length file ≡ size) (λ file. length file ≡ told) mid.held (λ file is. is ∙ sym opened.length) (length_told mid.held mid.size size opens.size holds));
+      long = told_here (λ file. length file ≡ told) mid.held new.held same.held (told_map (λ file. length file ≡ size) (λ file. length file ≡ told) mid.held (λ file is. is ∙ sym opened.length) (length_told mid.held mid.size size holds opens.size));
       read = told_here (λ file. header ≡ header_of file) mid.held new.held same.held opened.read;
     }
 
@@ -118,7 +100,7 @@ refused_file old mid new name size found opens holds refused = elim (length_faul
     kind = length_kind size found (some ∙ ap Some (sym length_wrong.0));
     first = told_here (λ file. opening_fault file ≡ Some found) mid.held new.held length_wrong.1.same.held (told_map (λ file. length file ≡ size) (λ file. opening_fault file ≡ Some found) mid.held
         (λ file same_length. first_is (length_fault (length file)) _ found (ap length_fault same_length ∙ (some ∙ ap Some (sym length_wrong.0))))
-        (length_told mid.held mid.size size opens.size holds));
+        (length_told mid.held mid.size size holds opens.size));
   }
 ] refl refused
 

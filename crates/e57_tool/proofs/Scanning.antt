@@ -1,5 +1,5 @@
 -- How `pages` ends, from what opening the file and scanning its pages found.
-use Rattle.std.proofs.Common.{◌≡◌, ℕ, ◌/◌, ◌<◌, true, List, length, Option, Some, None, refl, sym, ap, subst, ◌∙◌, arith, zero-add}
+use Rattle.std.proofs.Common.{◌≡◌, ℕ, ◌/◌, true, List, length, Option, Some, None, refl, sym, ap, subst, ◌∙◌, arith, zero-add}
 use Rattle.std.specs.Prelude.{IfSome}
 use Rattle.std.specs.Option.{option_or}
 use Rattle.e57_base.specs.Source.{SourceView}
@@ -13,11 +13,12 @@ use Rattle.e57_page.specs.Header.{header_fault, header_of}
 use Rattle.e57_page.specs.File.{length_fault, page_fault, pages_fault, opening_fault}
 use Rattle.e57_page.specs.FileLaws.{pages_fault-found, pages_fault-zero, whole_length}
 use Rattle.e57_page.specs.Pages.{IsScanned, IsScannedTo, is_opening_kind}
+use Rattle.e57_file.specs.Told.{told_map, told_both, told_here}
 use Rattle.e57_tool.specs.Lines.{pages_line}
-use Rattle.e57_tool.specs.Run.{OpensOnce, IsOpen, FindsFault}
+use Rattle.e57_tool.specs.Run.{OpensOnce, IsOpen}
 use Rattle.e57_tool.specs.Opening.{IsOpenedFile, IsUnopenedFile}
 use Rattle.e57_tool.specs.Pages.{pages_verdict, IsPagesFault, HasSoundPages, IsPagesOutput, PagesEnds}
-use Rattle.e57_tool.proofs.Opening.{opens_later, open_later, told_here, told_map, told_both}
+use Rattle.e57_tool.proofs.Opening.{opens_later, open_later}
 
 none_both : (a b : Option Fault) → option_or a b ≡ None → (a ≡ None) × (b ≡ None)
 none_both None b e = (refl, e)

@@ -1,9 +1,8 @@
 -- How `info` ends, from what opening the file and showing its text found.
-use Rattle.std.proofs.Common.{◌≡◌, ℕ, ◌/◌, ◌≤◌, Bool, true, false, ◌||◌, List, [], ◌∷◌, ◌++◌, Option, Some, None, inl, inr, refl, sym, ap, subst, ◌∙◌, ⊎_elim}
-use Rattle.std.specs.Prelude.{◌⊎◌, IfSome}
-use Rattle.e57_base.specs.Source.{SourceView, SameFile, Asks, asks_on}
+use Rattle.std.proofs.Common.{◌≡◌, ℕ, ◌/◌, Bool, true, false, ◌||◌, List, [], ◌∷◌, Option, Some, None, inl, inr, refl, sym, subst}
+use Rattle.std.specs.Prelude.{IfSome}
+use Rattle.e57_base.specs.Source.{SourceView, asks_on}
 use Rattle.e57_base.specs.Sink.{SinkView}
-use Rattle.e57_base.specs.declared.fault.Fault.{Fault}
 use Rattle.e57_base.specs.declared.fault.RunFault.{RunFault}
 use Rattle.e57_base.specs.declared.fault.RunFault.TheVariants.{Refused, Source, Out, Memory}
 use Rattle.e57_base.specs.Count.{rose_before}
@@ -15,10 +14,11 @@ use Rattle.e57_page.specs.Pages.{is_opening_kind}
 use Rattle.e57_file.specs.Section.{start_of, IsTextFault}
 use Rattle.e57_file.specs.Text.{AsksForSection, is_text_kind}
 use Rattle.e57_show.specs.Info.{InfoEnds, ShowsText, HasNoTextFault, IsShown}
+use Rattle.e57_file.specs.Told.{told_map, told_both, told_here}
 use Rattle.e57_tool.specs.Run.{OpensOnce, IsOpen}
 use Rattle.e57_tool.specs.Opening.{IsOpenedFile, IsUnopenedFile, AsksAtMostForFirst}
-use Rattle.e57_tool.specs.Info.{IsInfoFault, HasSoundText, is_info_kind, IsInfoOutput, IsTextAsk, AsksForText, InfoRunEnds}
-use Rattle.e57_tool.proofs.Opening.{opens_later, open_later, told_here, told_map, told_both}
+use Rattle.e57_tool.specs.Info.{IsInfoFault, HasSoundText, IsInfoOutput, IsTextAsk, AsksForText, InfoRunEnds}
+use Rattle.e57_tool.proofs.Opening.{opens_later, open_later}
 
 always : (P : List ℕ → Type 0) (held : Option (List ℕ)) → ((file : List ℕ) → P file) → IfSome held P
 always P None f = tt

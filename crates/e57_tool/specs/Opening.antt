@@ -1,5 +1,5 @@
 -- A file is opened for a command: its length, its header and its page 0 are judged.
-use Rattle.std.specs.Prelude.{◌≡◌, ◌⊎◌, ℕ, true, List, [], ◌∷◌, length, Option, Some, None, IfSome}
+use Rattle.std.specs.Prelude.{◌≡◌, ◌⊎◌, ℕ, true, List, [], ◌∷◌, length, Some, None, IfSome}
 use Rattle.e57_base.specs.Count.{Rose}
 use Rattle.e57_base.specs.Source.{SourceView, Asks}
 use Rattle.e57_base.specs.declared.fault.Fault.{Fault}

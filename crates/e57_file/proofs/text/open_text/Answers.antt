@@ -1,6 +1,6 @@
 use Rattle.std.proofs.Common.{◌≡◌, ◌∙◌, length, drop}
 use Rattle.std.proofs.lemmas.List.{take_at}
-use Rattle.e57_file.proofs.Sections.{refused_by_place, refused_by_page, refused_by_text, text_read}
+use Rattle.e57_file.proofs.Sections.{refused_by_place, refused_by_page, refused_by_text}
 use Rattle.e57_file.proofs.text.open_text.Goals as goal
 
 pub returns-in-Err-clause-text : goal.returns-in-Err-clause-text

@@ -1,4 +1,4 @@
-use Rattle.e57_tool.proofs.Opening.{opened_file, refused_file, source_lost, name_lost}
+use Rattle.e57_tool.proofs.Opening.{refused_file, name_lost}
 use Rattle.e57_tool.proofs.commands.open_pages.Goals as goal
 
 pub returns-in_default : goal.returns-in_default

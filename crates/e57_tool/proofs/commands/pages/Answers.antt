@@ -1,5 +1,3 @@
-use Rattle.std.proofs.Common.{◌≡◌, refl}
-use Rattle.e57_tool.specs.Lines.{pages_line}
 use Rattle.e57_tool.proofs.Scanning.{unopened_pages, wrong_page, scanned_file, text_is}
 use Rattle.e57_tool.proofs.commands.pages.Goals as goal
 
