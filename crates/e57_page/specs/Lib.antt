@@ -1,5 +1,7 @@
 pub mod Place
 pub mod PlaceLaws
+pub mod Kept
+pub mod KeptLaws
 pub mod Header
 pub mod File
 pub mod FileLaws
