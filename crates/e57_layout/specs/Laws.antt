@@ -2,3 +2,4 @@
 pub mod Numbers
 pub mod Standing
 pub mod Layouts
+pub mod Packing
