@@ -3,3 +3,5 @@ pub mod Numbers
 pub mod Standing
 pub mod Layouts
 pub mod Packing
+pub mod Widths
+pub mod Items
