@@ -5,3 +5,4 @@ pub mod Layouts
 pub mod Packing
 pub mod Widths
 pub mod Items
+pub mod Blocks
