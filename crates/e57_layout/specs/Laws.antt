@@ -6,3 +6,4 @@ pub mod Packing
 pub mod Widths
 pub mod Items
 pub mod Blocks
+pub mod Chunks

@@ -119,7 +119,7 @@ IsKind (words w) = Unit {0}
 IsKind strings = Unit {0}
 
 -- integers as numbers
-stored-below : (low high : ℤ) (values : List Value) → int_gap low high < 2 ^ 64 → AreItems (integers low high) values → AreBelow (width low high) (map (stored low) values)
+pub stored-below : (low high : ℤ) (values : List Value) → int_gap low high < 2 ^ 64 → AreItems (integers low high) values → AreBelow (width low high) (map (stored low) values)
 unfolding stored
 stored-below low high [] h g = tt
 stored-below low high (whole z ∷ values) h g =
@@ -130,7 +130,7 @@ stored-below low high (word n ∷ values) h g = absurd g.0
 stored-below low high (octets t ∷ values) h g = absurd g.0
 
 -- words as numbers
-words-below : (w : ℕ) (values : List Value) → AreItems (words w) values → AreBelow w (map (stored (pos 0)) values)
+pub words-below : (w : ℕ) (values : List Value) → AreItems (words w) values → AreBelow w (map (stored (pos 0)) values)
 unfolding stored
 words-below w [] g = tt
 words-below w (whole z ∷ values) g = absurd g.0
