@@ -7,3 +7,5 @@ pub mod Widths
 pub mod Items
 pub mod Blocks
 pub mod Chunks
+pub mod Steps
+pub mod Index

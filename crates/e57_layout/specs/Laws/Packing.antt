@@ -150,7 +150,7 @@ poured-some n ss h few large =
 abbrev pub IsRun : ℕ → Option (List (List ℕ)) → Type 0
 IsRun n run = AllByRecursion (IsPacket n) (flushed run)
 
-fits-run : (n : ℕ) (group : List (List ℕ)) → HasStreams n group → fits_packet group ≡ true → IsRun n (Some group)
+pub fits-run : (n : ℕ) (group : List (List ℕ)) → HasStreams n group → fits_packet group ≡ true → IsRun n (Some group)
 fits-run n group h within = (record { count = h; fits = fits-true group within }, tt)
 
 -- the three ways on
