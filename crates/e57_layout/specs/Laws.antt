@@ -9,3 +9,4 @@ pub mod Blocks
 pub mod Chunks
 pub mod Steps
 pub mod Index
+pub mod Written

@@ -1,5 +1,5 @@
 -- How a writer puts groups into packets, a group at a time.
-use Rattle.std.specs.Prelude.{ℕ, Bool, if◌then◌else◌, List, [], ◌∷◌, ◌++◌, Option, Some, None}
+use Rattle.std.specs.Prelude.{ℕ, if◌then◌else◌, List, [], ◌∷◌, ◌++◌, Option, Some, None}
 use Rattle.e57_layout.specs.Packing.{join_streams, fits_packet, poured}
 
 -- what groups lead to: the streams of the packets that are whole, and the run of groups that is under way

@@ -1,19 +1,19 @@
 -- Laws of chunks: the streams of a chunk's packets are its fields' bytes, and each of its items is read again.
-use Rattle.std.proofs.Common.{◌≡◌, ℕ, zero, suc, ◌+◌, ◌-◌, ◌*◌, ◌/◌, ◌<◌, ◌≤◌, ◌==◌, min, Bool, true, false, cond, List, [], ◌∷◌, ◌++◌, length, map, take, drop, get_or, Option, Some, None, refl, sym, ap, ◌∙◌, arith, ⊎_elim, length-append, length-take, length-drop}
+use Rattle.std.proofs.Common.{◌≡◌, ℕ, zero, suc, ◌-◌, ◌*◌, ◌<◌, ◌≤◌, ◌==◌, List, [], ◌∷◌, ◌++◌, length, map, take, drop, get_or, None, refl, sym, ap, ◌∙◌, arith, ⊎_elim, length-take}
 use Rattle.std.specs.Prelude.{pos}
-use Rattle.std.specs.List.{flat_map, AllByRecursion}
+use Rattle.std.specs.List.{AllByRecursion}
 use Rattle.std.proofs.lemmas.Bool.{cond_both, eqb-true, cases_lt}
 use Rattle.std.proofs.lemmas.List.{take-append-drop, append-nil, nil_from_length, length-map, map-append, take_all, drop_all}
 use Rattle.std.proofs.lemmas.List.Concat.{flat_map-append}
 use Rattle.e57_layout.specs.Bytes.{packed}
 use Rattle.e57_layout.specs.Widths.{width}
-use Rattle.e57_layout.specs.Values.{ItemKind, integers, words, strings, Value, Outcome, here}
+use Rattle.e57_layout.specs.Values.{ItemKind, integers, words, strings, Value, here}
 use Rattle.e57_layout.specs.Strings.{string_bytes_of}
 use Rattle.e57_layout.specs.Items.{item_at, AreItems, AreColumns, stored, octets_of, field_bytes}
-use Rattle.e57_layout.specs.Packing.{first_records, later_records, Block, cut_blocks, blocks, group_length, group_streams, stream_over, flushed, packets_of, chunk_groups, chunk_packets}
+use Rattle.e57_layout.specs.Packing.{first_records, later_records, Block, cut_blocks, blocks, group_length, group_streams, stream_over, chunk_groups, chunk_packets}
 use Rattle.e57_layout.specs.Laws.Numbers.{low_bytes-zero, packed_is, packed-append}
 use Rattle.e57_layout.specs.Laws.Items.{IsKind, stored-below, words-below, field_bytes-item}
-use Rattle.e57_layout.specs.Laws.Blocks.{all-take, first_block, columns-length, columns-at, first_records-column, later_records-column, later_records-columns, blocks-step}
+use Rattle.e57_layout.specs.Laws.Blocks.{all-take, first_block, columns-at, first_records-column, later_records-column, later_records-columns, blocks-step}
 use Rattle.e57_layout.specs.Laws.Packing.{HasStreams, IsPacket, packets_of-stream, packets_of-packets, packets_of-some}
 
 -- ---- a field's bytes

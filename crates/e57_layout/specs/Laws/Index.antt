@@ -1,12 +1,12 @@
 -- Laws of how the entries of an index are cut into packets and levels.
-use Rattle.std.proofs.Common.{◌≡◌, ℕ, zero, suc, ◌+◌, ◌-◌, ◌*◌, ◌/◌, ◌%◌, ◌<◌, ◌≤◌, min, Bool, true, false, cond, leb, List, [], ◌∷◌, ◌++◌, length, map, take, drop, refl, sym, ap, ◌∙◌, arith, length-append, length-take, length-drop, add-suc}
+use Rattle.std.proofs.Common.{◌≡◌, ℕ, zero, suc, ◌+◌, ◌-◌, ◌*◌, ◌/◌, ◌<◌, ◌≤◌, min, List, [], ◌∷◌, ◌++◌, length, take, drop, refl, sym, ap, ◌∙◌, arith, ⊎_elim, inl, inr, ◌⊎◌, ◌^◌, length-append, length-take, length-drop}
 use Rattle.std.specs.List.{flat_map, AllByRecursion}
-use Rattle.std.proofs.lemmas.Bool.{cond-true, cond-false, le-leb, lt-leb}
+use Rattle.std.proofs.lemmas.Bool.{le-leb, lt-leb, cases_lt}
 use Rattle.std.proofs.lemmas.List.{take-append-drop, append-nil}
-use Rattle.std.proofs.lemmas.List.Concat.{flat_map-append}
+use Rattle.std.proofs.Math.Nat.{pow-suc}
 use Rattle.e57_layout.specs.declared.packet.Entry.{Entry}
 use Rattle.e57_layout.specs.IndexPackets.{index_size}
-use Rattle.e57_layout.specs.Written.{physical, Spelled, packet_bytes, packets_bytes, first_record, cut_runs, entry_runs, level_spelled, level_size, upper_entries, index_spelled, root_place}
+use Rattle.e57_layout.specs.Written.{physical, packet_bytes, first_record, cut_runs, entry_runs, level_spelled, level_size, upper_entries, index_spelled, root_place}
 use Rattle.e57_layout.specs.Laws.Layouts.{length-index_packet}
 use Rattle.e57_layout.specs.Laws.Blocks.{all-take, all-drop}
 
@@ -131,3 +131,30 @@ root_place-last most level q es h = rw (le-leb (length (entry_runs es)) 1 h) ref
 pub root_place-more : (most level q : ℕ) (es : List Entry) → 1 < length (entry_runs es) → root_place (suc most) level q es ≡ root_place most (level + 1) (q + level_size level (entry_runs es)) (upper_entries q (entry_runs es))
 unfolding root_place
 root_place-more most level q es h = rw (lt-leb (length (entry_runs es)) 1 h) refl
+
+-- where enough levels are given, more of them change nothing
+pub index_spelled-enough : (most other level q : ℕ) (es : List Entry) → length es ≤ 2048 ^ suc most → length es ≤ 2048 ^ suc other → index_spelled (suc most) level q es ≡ index_spelled (suc other) level q es
+index_spelled-enough zero other level q es h g =
+    let count : length (entry_runs es) ≡ (length es + 2047) / 2048 = entry_runs-count es in
+    let one : 2048 ^ 1 ≡ 2048 = refl in
+    index_spelled-last zero level q es (omega arith) ∙ sym (index_spelled-last other level q es (omega arith))
+index_spelled-enough (suc most) zero level q es h g =
+    let count : length (entry_runs es) ≡ (length es + 2047) / 2048 = entry_runs-count es in
+    let one : 2048 ^ 1 ≡ 2048 = refl in
+    index_spelled-last (suc most) level q es (omega arith) ∙ sym (index_spelled-last zero level q es (omega arith))
+index_spelled-enough (suc most) (suc other) level q es h g = ⊎_elim
+    (λ few. index_spelled-last (suc most) level q es (omega arith) ∙ sym (index_spelled-last (suc other) level q es (omega arith)))
+    (λ many.
+    index_spelled-more (suc most) level q es many
+    ∙ ap (λ later. level_spelled level (entry_runs es) ++ later) (index_spelled-enough most other (level + 1) (q + level_size level (entry_runs es)) (upper_entries q (entry_runs es)) (fewer (suc most) h) (fewer (suc other) g))
+    ∙ sym (index_spelled-more (suc other) level q es many))
+    (cases_le (length (entry_runs es)) 1)
+  where
+    fewer : (m : ℕ) → length es ≤ 2048 ^ suc m → length (upper_entries q (entry_runs es)) ≤ 2048 ^ m
+    fewer m h =
+        let count : length (entry_runs es) ≡ (length es + 2047) / 2048 = entry_runs-count es in
+        let wide : 2048 ^ suc m ≡ 2048 ^ m * 2048 = pow-suc 2048 m in
+        rw length-upper_entries (omega arith)
+
+    cases_le : (a b : ℕ) → (a ≤ b) ⊎ (b < a)
+    cases_le a b = ⊎_elim (λ l. inr l) (λ l. inl l) (cases_lt b a)

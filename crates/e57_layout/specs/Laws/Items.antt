@@ -1,22 +1,21 @@
 -- Laws of items: an item that is written is read again, of every kind.
-use Rattle.std.proofs.Common.{◌≡◌, ℕ, zero, suc, ◌+◌, ◌-◌, ◌*◌, ◌/◌, ◌%◌, ◌^◌, ◌<◌, ◌≤◌, ◌==◌, Bool, true, false, cond, ltb, leb, List, [], ◌∷◌, ◌++◌, length, map, take, drop, get_or, refl, sym, ap, ◌∙◌, arith, add-zero, length-append, append_assoc, append-nil, lit<, lit≤}
-use Rattle.std.specs.Prelude.{ℤ, pos, negsuc, ◌+ℤ◌, ◌≤ℤ◌}
+use Rattle.std.proofs.Common.{◌≡◌, ℕ, zero, suc, ◌+◌, ◌*◌, ◌/◌, ◌%◌, ◌^◌, ◌<◌, ◌≤◌, ◌==◌, ltb, leb, List, [], ◌∷◌, ◌++◌, length, map, drop, get_or, refl, sym, ap, ◌∙◌, arith, length-append, append_assoc, append-nil}
+use Rattle.std.specs.Prelude.{ℤ, pos, ◌+ℤ◌, ◌≤ℤ◌}
 use Rattle.std.specs.Int.{int_gap}
-use Rattle.std.specs.List.{flat_map, AllByRecursion}
+use Rattle.std.specs.List.{flat_map}
 use Rattle.std.proofs.Math.Nat.{mod-eq_of_lt, le_refl}
-use Rattle.std.proofs.lemmas.Bool.{cond_both, cond-true, cond-false, le-ltb, lt-ltb, le-leb, eqb-true, eq-eqb, cases_Bool, leb-true, leb-false}
+use Rattle.std.proofs.lemmas.Bool.{cond_both, cond-true, cond-false, le-ltb, lt-ltb, eqb-true, leb-true}
 use Rattle.std.proofs.lemmas.List.{take_at, drop_at, length-map, get_or-map}
 use Rattle.std.proofs.lemmas.Nat.{mul-le}
 use Rattle.std.proofs.Math.IntN.{+ℤ_idr}
 use Rattle.e57_bits.specs.Bits.{number}
-use Rattle.e57_bits.specs.BitLaws.{number-take}
 use Rattle.e57_layout.specs.Bytes.{low_bytes, packed}
 use Rattle.e57_layout.specs.Standing.{Stands}
 use Rattle.e57_layout.specs.Widths.{width}
-use Rattle.e57_layout.specs.Values.{ItemKind, integers, words, strings, Value, whole, word, octets, Outcome, here, short, over_limit, out_of_range}
-use Rattle.e57_layout.specs.Strings.{string_limit, PrefixRead, prefix_found, first_prefix, after_prefix, StringRead, string_found, first_string, string_at, on_string, string_length_at, string_prefix, string_bytes_of}
+use Rattle.e57_layout.specs.Values.{ItemKind, integers, words, strings, Value, whole, word, octets, Outcome, here, short, out_of_range}
+use Rattle.e57_layout.specs.Strings.{string_limit, prefix_found, first_prefix, after_prefix, string_found, first_string, string_at, on_string, string_prefix, string_bytes_of}
 use Rattle.e57_layout.specs.Items.{bits_at, above, item_at, IsItem, AreItems, stored, octets_of, field_bytes}
-use Rattle.e57_layout.specs.Laws.Numbers.{AreBelow, length-low_bytes, low_bytes-suc, number-low_bytes_all, length-packed, packed-item}
+use Rattle.e57_layout.specs.Laws.Numbers.{AreBelow, length-low_bytes, low_bytes-suc, length-packed, packed-item}
 use Rattle.e57_layout.specs.Laws.Standing.{Stands-here, Stands-low_bytes}
 use Rattle.e57_layout.specs.Laws.Widths.{width-holds, gap-back, gap-le}
 

@@ -1,10 +1,10 @@
 -- Laws of a writer's steps: they lead to the packets of all groups.
-use Rattle.std.proofs.Common.{◌≡◌, ℕ, ◌+◌, ◌<◌, ◌≤◌, Bool, true, false, cond, List, [], ◌∷◌, ◌++◌, length, Option, Some, None, refl, sym, ap, ◌∙◌, arith, append_assoc, append-nil}
+use Rattle.std.proofs.Common.{◌≡◌, ℕ, ◌≤◌, Bool, true, false, cond, List, [], ◌∷◌, ◌++◌, Option, Some, None, refl, sym, ap, ◌∙◌, append_assoc, append-nil}
 use Rattle.std.specs.List.{AllByRecursion}
 use Rattle.std.proofs.lemmas.Bool.{cond_both}
 use Rattle.e57_layout.specs.Packing.{join_streams, fits_packet, poured, flushed, packets_of}
 use Rattle.e57_layout.specs.Steps.{Step, step, steps}
-use Rattle.e57_layout.specs.Laws.Packing.{IsPacket, HasStreams, IsRun, fits-run, length-join_streams, poured-packets, packets_of-nil, packets_of-begun, packets_of-joined, all-append}
+use Rattle.e57_layout.specs.Laws.Packing.{IsPacket, HasStreams, IsRun, fits-run, length-join_streams, poured-packets, packets_of-nil, all-append}
 
 -- the packets of groups after a step
 abbrev after : List (List (List ℕ)) → Step → List (List (List ℕ))
