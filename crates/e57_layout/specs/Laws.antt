@@ -10,3 +10,4 @@ pub mod Chunks
 pub mod Steps
 pub mod Index
 pub mod Written
+pub mod Found

@@ -16,7 +16,7 @@ pub data PrefixRead : Type 0 where
   prefix_too_long : PrefixRead
   prefix_cut_off : PrefixRead
 
--- a length of an eight-byte prefix, which may be above the limit
+-- a length that a prefix states, which may be above the limit
 abbrev pub limited : ℕ → List ℕ → PrefixRead
 limited n rest = if nat_lt string_limit n then prefix_too_long else prefix_found n rest
 
@@ -24,7 +24,7 @@ limited n rest = if nat_lt string_limit n then prefix_too_long else prefix_found
 unfoldable pub first_prefix : List ℕ → PrefixRead
 first_prefix [] = prefix_cut_off
 first_prefix (b ∷ bs) =
-    if b % 2 == 0 then prefix_found (b / 2) bs
+    if b % 2 == 0 then limited (b / 2) bs
     else (if nat_lt (length bs) 7 then prefix_cut_off else limited (number (b ∷ bs) 0 64 / 2) (drop 7 bs))
 
 -- a string and what follows it; or its length is above the limit; or the stream ends within it

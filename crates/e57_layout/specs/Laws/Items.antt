@@ -60,7 +60,7 @@ one_byte n rest h =
     let byte : 2 * n % 256 ≡ 2 * n = mod-eq_of_lt (omega arith) in
     let even : 2 * n % 2 ≡ 0 = omega arith in
     let half : 2 * n / 2 ≡ n = omega arith in
-    rw (byte, even, half) refl
+    rw (byte, even, half, le-ltb string_limit n (omega arith)) refl
 
 -- a prefix of eight bytes
 eight : (b : ℕ) (bs rest : List ℕ) (n m : ℕ) → b % 2 ≡ 1 → 7 ≤ length bs → number (b ∷ bs) 0 64 ≡ m → m / 2 ≡ n → n ≤ string_limit → drop 7 bs ≡ rest → first_prefix (b ∷ bs) ≡ prefix_found n rest
