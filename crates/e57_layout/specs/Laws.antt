@@ -1,4 +1,5 @@
 -- What holds of the layouts, of items, and of how records are cut.
+pub mod Lists
 pub mod Numbers
 pub mod Standing
 pub mod Layouts

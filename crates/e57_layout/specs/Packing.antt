@@ -16,6 +16,12 @@ first_records n columns = map (λ (column : List Value). take n column) columns
 unfoldable pub later_records : ℕ → List (List Value) → List (List Value)
 later_records n columns = map (λ (column : List Value). drop n column) columns
 
+-- records after records, field by field
+unfoldable pub join_columns : List (List Value) → List (List Value) → List (List Value)
+join_columns [] later = later
+join_columns (column ∷ columns) [] = column ∷ columns
+join_columns (column ∷ columns) (more ∷ later) = (column ++ more) ∷ join_columns columns later
+
 -- some records: how many, and a column of items for each field
 pub record Block : Type 0 where
   pub count : ℕ
