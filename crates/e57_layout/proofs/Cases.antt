@@ -183,3 +183,19 @@ second-items :
     × (items (integers (pos 0) (pos 1)) (240 ∷ []) (0 ∷ 1 ∷ 2 ∷ 3 ∷ 4 ∷ 5 ∷ 6 ∷ 7 ∷ 8 ∷ []) ≡ here (whole (pos 0)) ∷ here (whole (pos 0)) ∷ here (whole (pos 0)) ∷ here (whole (pos 0)) ∷ here (whole (pos 1)) ∷ here (whole (pos 1)) ∷ here (whole (pos 1)) ∷ here (whole (pos 1)) ∷ short 8 ∷ [])
 unfolding bit number bit_length width first_prefix first_string string_at string_length_at bits_at item_at
 second-items = (refl, refl)
+
+abbrev second_columns : List (List Value)
+second_columns = map (λ (z : ℕ). whole (pos z)) (1 ∷ 0 ∷ 1 ∷ 0 ∷ 1 ∷ 0 ∷ 0 ∷ 0 ∷ 0 ∷ 1 ∷ 1 ∷ 1 ∷ 1 ∷ []) ∷ []
+
+abbrev in_one : List ℕ
+in_one = 1 ∷ 0 ∷ 0 ∷ 0 ∷ 0 ∷ 0 ∷ 0 ∷ 0 ∷ 76 ∷ 0 ∷ 0 ∷ 0 ∷ 0 ∷ 0 ∷ 0 ∷ 0 ∷ 32 ∷ 4 ∷ 0 ∷ 0 ∷ 0 ∷ 0 ∷ 0 ∷ 0 ∷ 44 ∷ 4 ∷ 0 ∷ 0 ∷ 0 ∷ 0 ∷ 0 ∷ 0 ∷ 1 ∷ 1 ∷ 11 ∷ 0 ∷ 1 ∷ 0 ∷ 2 ∷ 0 ∷ 21 ∷ 30 ∷ 0 ∷ 0 ∷ 0 ∷ 0 ∷ 31 ∷ 0 ∷ 1 ∷ 0 ∷ 0 ∷ 0 ∷ 0 ∷ 0 ∷ 0 ∷ 0 ∷ 0 ∷ 0 ∷ 0 ∷ 0 ∷ 0 ∷ 0 ∷ 0 ∷ 0 ∷ 0 ∷ 0 ∷ 0 ∷ 0 ∷ 32 ∷ 4 ∷ 0 ∷ 0 ∷ 0 ∷ 0 ∷ 0 ∷ 0 ∷ []
+
+abbrev in_two : List ℕ
+in_two = 1 ∷ 0 ∷ 0 ∷ 0 ∷ 0 ∷ 0 ∷ 0 ∷ 0 ∷ 104 ∷ 0 ∷ 0 ∷ 0 ∷ 0 ∷ 0 ∷ 0 ∷ 0 ∷ 32 ∷ 4 ∷ 0 ∷ 0 ∷ 0 ∷ 0 ∷ 0 ∷ 0 ∷ 56 ∷ 4 ∷ 0 ∷ 0 ∷ 0 ∷ 0 ∷ 0 ∷ 0 ∷ 1 ∷ 1 ∷ 11 ∷ 0 ∷ 1 ∷ 0 ∷ 1 ∷ 0 ∷ 21 ∷ 0 ∷ 0 ∷ 0 ∷ 1 ∷ 1 ∷ 11 ∷ 0 ∷ 1 ∷ 0 ∷ 1 ∷ 0 ∷ 30 ∷ 0 ∷ 0 ∷ 0 ∷ 0 ∷ 0 ∷ 47 ∷ 0 ∷ 2 ∷ 0 ∷ 0 ∷ 0 ∷ 0 ∷ 0 ∷ 0 ∷ 0 ∷ 0 ∷ 0 ∷ 0 ∷ 0 ∷ 0 ∷ 0 ∷ 0 ∷ 0 ∷ 0 ∷ 0 ∷ 0 ∷ 0 ∷ 32 ∷ 4 ∷ 0 ∷ 0 ∷ 0 ∷ 0 ∷ 0 ∷ 0 ∷ 8 ∷ 0 ∷ 0 ∷ 0 ∷ 0 ∷ 0 ∷ 0 ∷ 0 ∷ 44 ∷ 4 ∷ 0 ∷ 0 ∷ 0 ∷ 0 ∷ 0 ∷ 0 ∷ []
+
+-- its records as we write them, from place 1020 on: in one chunk of two groups, and in chunks of 8
+second-written :
+    (section_spelled 1020 (integers (pos 0) (pos 1) ∷ []) 16 13 second_columns ≡ in_one)
+    × (section_spelled 1020 (integers (pos 0) (pos 1) ∷ []) 8 13 second_columns ≡ in_two)
+unfolding low_bytes section_head packet_head whole_words padding data_size stream_lengths data_packet index_head entry_bytes index_packet joined packed bit_length width string_prefix string_bytes_of stored octets_of field_bytes first_records later_records cut_blocks blocks group_streams join_streams fits_packet packets_of chunk_groups chunk_packets physical packet_bytes flagged chunk_spelled chunks_spelled chunk_entries cut_runs entry_runs level_spelled upper_entries index_spelled root_place data_spelled packets_spelled section_spelled
+second-written = (refl, refl)

@@ -12,3 +12,5 @@ pub mod Steps
 pub mod Index
 pub mod Written
 pub mod Found
+pub mod Strings
+pub mod Faults
