@@ -5,7 +5,7 @@ use Rattle.e57_bits.specs.Bits.{number, bit}
 use Rattle.e57_layout.specs.declared.section.SectionHeader.{SectionHeader}
 use Rattle.e57_layout.specs.declared.packet.Entry.{Entry}
 use Rattle.e57_layout.specs.Bytes.{low_bytes, joined, packed}
-use Rattle.e57_layout.specs.Headers.{section_head, section_head_at}
+use Rattle.e57_layout.specs.Headers.{section_head, section_head_at, blob_head_of, blob_head_at}
 use Rattle.e57_layout.specs.Packets.{packet_head, whole_words, padding, data_size, stream_lengths, data_packet, sort_at, restart_at, length_at, stream_count_at, lengths_at, streams_at, streams_of}
 use Rattle.e57_layout.specs.IndexPackets.{index_head, entry_bytes, index_packet, entry_count_at, level_at, entry_at, entries_at}
 use Rattle.e57_layout.specs.Widths.{bit_length, width}
@@ -13,7 +13,7 @@ use Rattle.e57_layout.specs.Values.{ItemKind, integers, words, strings, Value, w
 use Rattle.e57_layout.specs.Strings.{first_prefix, first_string, string_at, string_length_at, string_prefix, string_bytes_of}
 use Rattle.e57_layout.specs.Items.{bits_at, item_at, stored, octets_of, field_bytes}
 use Rattle.e57_layout.specs.Packing.{first_records, later_records, cut_blocks, blocks, group_streams, join_streams, fits_packet, packets_of, chunk_groups, chunk_packets}
-use Rattle.e57_layout.specs.Written.{physical, packet_bytes, flagged, chunk_spelled, chunks_spelled, chunk_entries, cut_runs, entry_runs, level_spelled, upper_entries, index_spelled, root_place, data_spelled, packets_spelled, section_spelled}
+use Rattle.e57_layout.specs.Written.{physical, packet_bytes, flagged, chunk_spelled, chunks_spelled, chunk_entries, cut_runs, entry_runs, level_spelled, upper_entries, index_spelled, root_place, data_spelled, packets_spelled, section_spelled, blob_spelled}
 
 -- ---- three records of four fields in one chunk; the section stands at logical place 1020
 
@@ -199,3 +199,11 @@ second-written :
     × (section_spelled 1020 (integers (pos 0) (pos 1) ∷ []) 8 13 second_columns ≡ in_two)
 unfolding low_bytes section_head packet_head whole_words padding data_size stream_lengths data_packet index_head entry_bytes index_packet joined packed bit_length width string_prefix string_bytes_of stored octets_of field_bytes first_records later_records cut_blocks blocks group_streams join_streams fits_packet packets_of chunk_groups chunk_packets physical packet_bytes flagged chunk_spelled chunks_spelled chunk_entries cut_runs entry_runs level_spelled upper_entries index_spelled root_place data_spelled packets_spelled section_spelled
 second-written = (refl, refl)
+
+-- ---- a blob of three bytes
+
+blob-spelled :
+    (blob_spelled (7 ∷ 8 ∷ 9 ∷ []) ≡ 0 ∷ 0 ∷ 0 ∷ 0 ∷ 0 ∷ 0 ∷ 0 ∷ 0 ∷ 20 ∷ 0 ∷ 0 ∷ 0 ∷ 0 ∷ 0 ∷ 0 ∷ 0 ∷ 7 ∷ 8 ∷ 9 ∷ [])
+    × (blob_head_at (blob_spelled (7 ∷ 8 ∷ 9 ∷ [])) 0 ≡ record { id = 0; length = 20 })
+unfolding low_bytes blob_head_of whole_words blob_spelled bit number blob_head_at
+blob-spelled = (refl, refl)

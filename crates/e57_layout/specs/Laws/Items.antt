@@ -1,7 +1,7 @@
 -- Laws of items: an item that is written is read again, of every kind.
 use Rattle.std.proofs.Common.{◌≡◌, ℕ, zero, suc, ◌+◌, ◌*◌, ◌/◌, ◌%◌, ◌^◌, ◌<◌, ◌≤◌, ◌==◌, ltb, leb, List, [], ◌∷◌, ◌++◌, length, map, drop, get_or, refl, sym, ap, ◌∙◌, arith, length-append, append_assoc, append-nil}
-use Rattle.std.specs.Prelude.{ℤ, pos, ◌+ℤ◌, ◌≤ℤ◌}
-use Rattle.std.specs.Int.{int_gap}
+use Rattle.std.specs.Prelude.{ℤ, pos, ◌+ℤ◌, ◌≤ℤ◌, FitsSigned}
+use Rattle.std.specs.Int.{int_gap, w64}
 use Rattle.std.specs.List.{flat_map}
 use Rattle.std.proofs.Math.Nat.{mod-eq_of_lt, le_refl}
 use Rattle.std.proofs.lemmas.Bool.{cond_both, cond-true, cond-false, le-ltb, lt-ltb, eqb-true, leb-true}
@@ -17,7 +17,7 @@ use Rattle.e57_layout.specs.Strings.{string_limit, prefix_found, first_prefix, a
 use Rattle.e57_layout.specs.Items.{bits_at, above, item_at, IsItem, AreItems, stored, octets_of, field_bytes}
 use Rattle.e57_layout.specs.Laws.Numbers.{AreBelow, length-low_bytes, low_bytes-suc, length-packed, packed-item}
 use Rattle.e57_layout.specs.Laws.Standing.{Stands-here, Stands-low_bytes}
-use Rattle.e57_layout.specs.Laws.Widths.{width-holds, gap-back, gap-le}
+use Rattle.e57_layout.specs.Laws.Widths.{width-holds, gap-back, gap-le, gap-lt}
 
 -- ---- the items of a list
 
@@ -116,6 +116,10 @@ abbrev pub IsKind : ItemKind → Type 0
 IsKind (integers low high) = (low ≤ℤ high) × (int_gap low high < 2 ^ 64)
 IsKind (words w) = Unit {0}
 IsKind strings = Unit {0}
+
+-- limits of 64 bits
+pub IsKind-fits : (low high : ℤ) → FitsSigned w64 low → FitsSigned w64 high → low ≤ℤ high → IsKind (integers low high)
+IsKind-fits low high h g l = (l, gap-lt low high h g)
 
 -- integers as numbers
 pub stored-below : (low high : ℤ) (values : List Value) → int_gap low high < 2 ^ 64 → AreItems (integers low high) values → AreBelow (width low high) (map (stored low) values)
