@@ -1,7 +1,7 @@
 -- What a reader of the code gave, against a reading function.
-use Rattle.std.specs.Prelude.{◌≡◌, List, ℕ, ◌++◌, Option, Some, None, Result, Ok, Err}
+use Rattle.std.specs.Prelude.{◌≡◌, List, ℕ, true, ◌++◌, Option, Some, None, Result, Ok, Err}
 use Rattle.e57_pieces.specs.Cut.{NoPiece}
-use Rattle.e57_pieces.specs.Start.{IsDeclaration, BeginsNowhere}
+use Rattle.e57_pieces.specs.Start.{after_mark, declares, IsDeclaration, BeginsNowhere}
 use Rattle.e57_pieces.specs.declared.stop.Stop.{Stop}
 use Rattle.e57_pieces.specs.declared.stop.Stop.TheVariants.{Memory, Absent}
 
@@ -28,5 +28,5 @@ StopsDeclaration Memory text = Unit {0}
 StopsDeclaration Absent text = (spelling rest : List ℕ) → text ≡ spelling ++ rest → IsDeclaration spelling → ⊥
 
 abbrev pub StopsStart : Stop → List ℕ → Type 0
-StopsStart Memory text = Unit {0}
+StopsStart Memory text = declares (after_mark text) ≡ true
 StopsStart Absent text = BeginsNowhere text

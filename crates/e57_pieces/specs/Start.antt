@@ -66,7 +66,7 @@ pub record BeginsNowhere (text : List ℕ) : Type 0 where
 abbrev pub start_place : List ℕ → ℕ
 start_place text = length text - length (after_mark text)
 
--- how the search for that place fails: with the fault Piece there, unless memory runs out
+-- how the search for that place fails: with the fault Piece there, unless memory runs out while a declaration is read
 abbrev pub IsStartFault : List ℕ → TextFault → Type 0
 IsStartFault text (Refused fault) = BeginsNowhere text × (fault ≡ record { kind = Piece; a = start_place text; b = 0 })
-IsStartFault text Memory = Unit {0}
+IsStartFault text Memory = declares (after_mark text) ≡ true
