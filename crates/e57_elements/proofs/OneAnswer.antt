@@ -18,7 +18,7 @@ use Rattle.e57_elements.specs.Fault.{fault_at, AreSound, IsPieceFault, IsStopFau
 use Rattle.e57_elements.specs.Machine.{reading, done, run}
 use Rattle.e57_elements.proofs.Runs.{nested_runs}
 use Rattle.e57_elements.proofs.Counts.{Fits, fits_passes}
-use Rattle.e57_elements.proofs.Reached.{few_from}
+use Rattle.e57_elements.proofs.Led.{few_from}
 
 -- ---- trees
 

@@ -1,5 +1,5 @@
 -- The first fault of a text that isn't the spelling of a lawful tree.
-use Rattle.std.specs.Prelude.{◌≡◌, ℕ, ◌+◌, ◌-◌, ◌^◌, nat_lt, ◌⊎◌, List, [], ◌∷◌, ◌++◌, length, Option, Some, None, if◌then◌else◌, IsUtf8}
+use Rattle.std.specs.Prelude.{◌≡◌, ℕ, ◌+◌, ◌-◌, nat_lt, ◌⊎◌, List, [], ◌∷◌, ◌++◌, length, Option, Some, None, if◌then◌else◌, IsUtf8}
 use Rattle.std.specs.Str.Lossy.{utf8_valid_len}
 use Rattle.e57_base.specs.declared.fault.Fault.{Fault}
 use Rattle.e57_base.specs.declared.fault.TextFault.{TextFault}
@@ -10,8 +10,11 @@ use Rattle.e57_pieces.specs.declared.piece.Piece.{Piece}
 use Rattle.e57_pieces.specs.declared.piece.Piece.TheVariants.{Start, Empty, End, Comment, CData, Text}
 use Rattle.e57_pieces.specs.Cut.{IsFront, IsNext, NoPiece}
 use Rattle.e57_pieces.specs.Start.{Begins, IsStartFault}
+use Rattle.e57_elements.specs.Limits.{max_attrs, max_depth, max_elements}
 use Rattle.e57_elements.specs.Tree.{Element}
 use Rattle.e57_elements.specs.Nested.{Nested, Alive}
+use Rattle.e57_elements.specs.Lawful.{IsLawful}
+use Rattle.e57_elements.specs.Spells.{Spells}
 
 -- ---- the limits
 
@@ -49,9 +52,10 @@ total count (piece ∷ pieces) = count piece + total count pieces
 abbrev pub open_after : List Piece → ℕ
 open_after pieces = total opened pieces - total closed pieces
 
--- the first limit that an element passes: 64 attributes, depth 64, 2 ^ 20 elements
+-- the first limit that an element passes, by its number
 abbrev pub limit : ℕ → ℕ → ℕ → Option ℕ
-limit attrs depth place = if nat_lt 64 attrs then Some 1 else if nat_lt 64 depth then Some 2 else if nat_lt (2 ^ 20) place then Some 3 else None
+limit attrs depth place =
+    if nat_lt max_attrs attrs then Some 1 else if nat_lt max_depth depth then Some 2 else if nat_lt max_elements place then Some 3 else None
 
 -- the first limit that a piece passes which stands after these
 abbrev pub passes : List Piece → Piece → Option ℕ
@@ -100,7 +104,11 @@ IsFirstFault text fault =
     ⊎ (IsUtf8 text × IsStartFault text (Refused fault))
     ⊎ (IsUtf8 text × (body : List ℕ) × Begins text body × IsBodyFault (length text) body fault)
 
--- how the reading fails: with the first fault, unless memory runs out
+-- How the reading fails: with the first fault; or memory runs out, but not where the text isn't UTF-8.
 abbrev pub IsReadFault : List ℕ → TextFault → Type 0
 IsReadFault text (Refused fault) = IsFirstFault text fault
-IsReadFault text Memory = Unit {0}
+IsReadFault text Memory = IsUtf8 text
+
+-- The text spells a lawful tree, or has a first fault.
+abbrev pub HasAnswer : List ℕ → Type 0
+HasAnswer text = ((tree : Element) × Spells text tree × IsLawful tree) ⊎ ((fault : Fault) × IsFirstFault text fault)

@@ -1,7 +1,8 @@
 //! The written spelling of a tree.
 
-ghost use Rattle.std.specs.Prelude.{◌≡◌, ◌^◌, ◌≤◌, ◌∷◌, ◌++◌, [], List, codes, drop, length, IfOk, OnOk};
+ghost use Rattle.std.specs.Prelude.{◌≡◌, ◌≤◌, ◌∷◌, ◌++◌, [], List, codes, drop, length, IfOk, OnOk};
 ghost use Rattle.e57_elements.specs.declared.tree.RawNode.{RawNode};
+ghost use Rattle.e57_elements.specs.Limits.{max_elements};
 ghost use Rattle.e57_elements.specs.Tree.{Element, preorder};
 ghost use Rattle.e57_elements.specs.Lawful.{IsLawful};
 ghost use Rattle.e57_elements.specs.Spells.{Spells};
@@ -38,7 +39,7 @@ pub fn spelling_spells()
 /// Writes the element at a place. It calls itself for the children, so at most to the depth of the tree, which is 64.
 fn write_element(out: &mut Vec<u8>, tree: &RawTree, place: usize) -> Result<(), AllocError>
     requires stands { StandsAt tree.now place }
-    requires few { length tree.now ≤ 2 ^ 20 }
+    requires few { length tree.now ≤ max_elements }
     ensures { (e : Element) (rest : List RawNode) → drop place tree.now ≡ preorder e ++ rest → OnOk result (out.new.items ≡ out.old.items ++ element_spelling e) }
 {
     let node = tree.node(place);
