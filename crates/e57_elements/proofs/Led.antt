@@ -1,6 +1,7 @@
 -- How far the pieces of a body have led, and what comes where they stop.
 use Rattle.std.proofs.Common.{◌≡◌, ℕ, ◌-◌, ◌≤◌, List, [], ◌∷◌, ◌++◌, length, Some, None, refl, sym, ap, subst, ◌∙◌, inl, inr, arith}
 use Rattle.std.specs.List.{AllByRecursion}
+use Rattle.e57_base.specs.Fault.{fault}
 use Rattle.e57_base.specs.declared.kind.Kind.TheVariants as kind
 use Rattle.e57_pieces.specs.declared.piece.Piece.{Piece}
 use Rattle.e57_pieces.specs.Cut.{NoPiece, IsNext, IsFront}
@@ -10,7 +11,7 @@ use Rattle.e57_elements.specs.Limits.{max_elements}
 use Rattle.e57_elements.specs.Tree.{Element, preorder}
 use Rattle.e57_elements.specs.Nested.{Nested}
 use Rattle.e57_elements.specs.Lawful.{IsLawfulNode}
-use Rattle.e57_elements.specs.Fault.{AreSound, IsBodyFault, fault_at}
+use Rattle.e57_elements.specs.Fault.{AreSound, IsBodyFault}
 use Rattle.e57_elements.specs.Machine.{Open, State, reading, done, step, run, state_nodes, passes_in}
 use Rattle.e57_elements.specs.Builder.{ReadsBody}
 use Rattle.e57_elements.proofs.Runs.{run-append, nested_runs}
@@ -66,7 +67,7 @@ led_next body here rest piece after l next steps fits =
 -- ---- the faults
 
 -- with the next piece the pieces begin no nested list
-pub nest_fault : (len : ℕ) (body here rest : List ℕ) (piece : Piece) (l : Led body here) → IsNext here piece rest → step l.state piece ≡ None → IsBodyFault len body (fault_at kind.Nest (len - length here) 0)
+pub nest_fault : (len : ℕ) (body here rest : List ℕ) (piece : Piece) (l : Led body here) → IsNext here piece rest → step l.state piece ≡ None → IsBodyFault len body (fault kind.Nest (len - length here) 0)
 nest_fault len body here rest piece l next dead =
     record {
       before = l.before;
@@ -78,7 +79,7 @@ nest_fault len body here rest piece l next dead =
 
 -- the next piece passes a limit
 pub limit_fault : (len : ℕ) (body here rest : List ℕ) (piece : Piece) (after : State) (b : ℕ) (l : Led body here) → IsNext here piece rest → step l.state piece ≡ Some after → passes_in l.state piece ≡ Some b
-    → IsBodyFault len body (fault_at kind.TreeLimit (len - length here) b)
+    → IsBodyFault len body (fault kind.TreeLimit (len - length here) b)
 limit_fault len body here rest piece after b l next steps passed =
     record {
       before = l.before;
@@ -89,12 +90,12 @@ limit_fault len body here rest piece after b l next steps passed =
     }
 
 -- no piece is spelled where text is left
-pub piece_fault : (len : ℕ) (body : List ℕ) (b : ℕ) (bs : List ℕ) → Led body (b ∷ bs) → NoPiece (b ∷ bs) → IsBodyFault len body (fault_at kind.Piece (len - length (b ∷ bs)) 0)
+pub piece_fault : (len : ℕ) (body : List ℕ) (b : ℕ) (bs : List ℕ) → Led body (b ∷ bs) → NoPiece (b ∷ bs) → IsBodyFault len body (fault kind.Piece (len - length (b ∷ bs)) 0)
 piece_fault len body b bs l none_here =
     record { before = l.before; here = b ∷ bs; is_front = l.is_front; are_sound = led_sound body (b ∷ bs) l; is_fault = inr (none_here, refl) }
 
 -- the text ends before the root
-pub end_fault : (len : ℕ) (body : List ℕ) (opens : List Open) (l : Led body []) → NoPiece [] → l.state ≡ reading opens → IsBodyFault len body (fault_at kind.Nest (len - length {A = ℕ} []) 0)
+pub end_fault : (len : ℕ) (body : List ℕ) (opens : List Open) (l : Led body []) → NoPiece [] → l.state ≡ reading opens → IsBodyFault len body (fault kind.Nest (len - length {A = ℕ} []) 0)
 end_fault len body opens l none_here is =
     record {
       before = l.before;

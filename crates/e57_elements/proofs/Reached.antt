@@ -2,6 +2,7 @@
 use Rattle.std.proofs.Common.{◌≡◌, ℕ, ◌-◌, ◌^◌, ◌<◌, ◌≤◌, Bool, true, false, List, [], ◌∷◌, ◌++◌, length, Option, Some, None, MatchOption, IfNone, OnSome, Result, Ok, Err, IfOk, IfErr, eqb, refl, sym, ap, subst, ◌∙◌, inl, inr, length-append, arith}
 use Rattle.std.proofs.lemmas.Bool.{ne_eqb}
 use Rattle.std.specs.List.{AllByRecursion}
+use Rattle.e57_base.specs.Fault.{fault}
 use Rattle.e57_base.specs.declared.fault.TextFault.{TextFault}
 use Rattle.e57_base.specs.declared.fault.TextFault.TheVariants as failure
 use Rattle.e57_base.specs.declared.kind.Kind.TheVariants as kind
@@ -14,7 +15,6 @@ use Rattle.e57_elements.specs.declared.tree.RawNode.{RawNode}
 use Rattle.e57_elements.specs.declared.builder.Builder.{Builder}
 use Rattle.e57_elements.specs.declared.builder.TakeFault.{TakeFault}
 use Rattle.e57_elements.specs.declared.builder.TakeFault.TheVariants.{Nest, Limit, Memory}
-use Rattle.e57_elements.specs.Fault.{fault_at}
 use Rattle.e57_elements.specs.Machine.{State, reading, done}
 use Rattle.e57_elements.specs.Builder.{Keeps, Takes, take_fault, ReadsBody, IsBodyFailure, Ends}
 use Rattle.e57_elements.proofs.Led.{Led, led_start, led_next, nest_fault, limit_fault, piece_fault, end_fault, end_tree}
@@ -60,7 +60,7 @@ answered body [] builder len result r none_here ends = answered_at_end body len 
 answered body (b ∷ bs) builder len result r none_here ends =
     let e : Ends r.led.state false (len - length (b ∷ bs)) result = subst (λ t. Ends r.led.state t (len - length (b ∷ bs)) result) (ne_eqb (length (b ∷ bs)) 0 (λ z. omega arith)) (ends r.led.state r.keeps) in
     subst (IsAnswered len body) (sym (stopped r.led.state (len - length (b ∷ bs)) result e)) (tt, piece_fault len body b bs r.led none_here) where
-      stopped : (s : State) (byte : ℕ) (result : Result (List RawNode) TextFault) → Ends s false byte result → result ≡ Err (failure.Refused (fault_at kind.Piece byte 0))
+      stopped : (s : State) (byte : ℕ) (result : Result (List RawNode) TextFault) → Ends s false byte result → result ≡ Err (failure.Refused (fault kind.Piece byte 0))
       stopped s byte result e = e
 
 -- what the end says, in the words of the body

@@ -3,6 +3,7 @@ use Rattle.std.proofs.Common.{◌≡◌, ℕ, zero, suc, ◌-◌, ◌<◌, ◌�
 use Rattle.std.specs.Str.{IsUtf8, is_utf8}
 use Rattle.std.specs.Str.Lossy.{utf8_valid_len}
 use Rattle.std.proofs.lemmas.Str.{IsUtf8-from_is_utf8, is_utf8-from_IsUtf8}
+use Rattle.e57_base.specs.Fault.{fault}
 use Rattle.e57_base.specs.declared.fault.Fault.{Fault}
 use Rattle.e57_base.specs.declared.kind.Kind.TheVariants as kind
 use Rattle.e57_pieces.specs.Cut.{NoPiece}
@@ -11,7 +12,7 @@ use Rattle.e57_pieces.specs.Reading.{next_at, body_at}
 use Rattle.e57_pieces.specs.Laws.Next.{is_next, no_next, next_shorter, IsUtf8-next}
 use Rattle.e57_pieces.specs.Laws.Start.{begins_is, begins_nowhere, IsUtf8-body}
 use Rattle.e57_elements.specs.declared.tree.RawNode.{RawNode}
-use Rattle.e57_elements.specs.Fault.{fault_at, IsBodyFault, HasAnswer}
+use Rattle.e57_elements.specs.Fault.{IsBodyFault, HasAnswer}
 use Rattle.e57_elements.specs.Machine.{State, reading, done, step, passes_in}
 use Rattle.e57_elements.specs.Builder.{ReadsBody}
 use Rattle.e57_elements.proofs.Led.{Led, led_start, led_next, nest_fault, limit_fault, piece_fault, end_fault, end_tree}
@@ -58,13 +59,18 @@ walk (suc n) len body here lt utf8 l =
 -- ---- of a text
 
 from_body : (text body : List ℕ) → IsUtf8 text → Begins text body → BodyAnswer (length text) body → HasAnswer text
-from_body text body utf8 begins (inl (nodes, reads)) = inl (reads.tree, record { utf8 = utf8; body = body; begins = begins; pieces = reads.pieces; is_cut = reads.is_cut; nested = reads.nested }, reads.is_lawful)
+from_body text body utf8 begins (inl (nodes, reads)) =
+    inl (
+      reads.tree,
+      record { utf8 = utf8; body = body; begins = begins; pieces = reads.pieces; is_cut = reads.is_cut; nested = reads.nested },
+      reads.is_lawful,
+    )
 from_body text body utf8 begins (inr (fault, is)) = inr (fault, inr (inr (utf8, body, begins, is)))
 
 of_utf8 : (text : List ℕ) → IsUtf8 text → HasAnswer text
 of_utf8 text utf8 =
     elim (seen (body_at text)) [
-      | inl none ↦ inr (fault_at kind.Piece (start_place text) 0, inr (inl (utf8, (begins_nowhere text utf8 none, refl))))
+      | inl none ↦ inr (fault kind.Piece (start_place text) 0, inr (inl (utf8, (begins_nowhere text utf8 none, refl))))
       | inr found ↦
           let begins = begins_is text found.0 utf8 found.1 in
           from_body text found.0 utf8 begins (walk (suc (length found.0)) (length text) found.0 found.0 (omega arith) (IsUtf8-body text found.0 utf8 begins) (led_start found.0))
@@ -78,5 +84,5 @@ pub some_answer : (text : List ℕ) → HasAnswer text
 some_answer text =
     elim (tested (is_utf8 text)) [
       | inl valid ↦ of_utf8 text (IsUtf8-from_is_utf8 text valid)
-      | inr invalid ↦ inr (fault_at kind.XmlUtf8 (utf8_valid_len text) 0, inl ((λ utf8. both_ways (is_utf8 text) (is_utf8-from_IsUtf8 text utf8) invalid), refl))
+      | inr invalid ↦ inr (fault kind.XmlUtf8 (utf8_valid_len text) 0, inl ((λ utf8. both_ways (is_utf8 text) (is_utf8-from_IsUtf8 text utf8) invalid), refl))
     ]

@@ -1,5 +1,6 @@
 -- What the builder of a tree keeps of the machine's state.
 use Rattle.std.specs.Prelude.{◌≡◌, ℕ, ◌+◌, ◌≤◌, nat_lt, ◌&&◌, Bool, true, false, List, [], ◌∷◌, ◌++◌, length, Some, None, Result, Ok, Err, if◌then◌else◌}
+use Rattle.e57_base.specs.Fault.{fault}
 use Rattle.e57_base.specs.declared.fault.TextFault.{TextFault}
 use Rattle.e57_base.specs.declared.fault.TextFault.TheVariants as failure
 use Rattle.e57_base.specs.declared.kind.Kind.TheVariants as kind
@@ -14,7 +15,7 @@ use Rattle.e57_elements.specs.Limits.{max_elements}
 use Rattle.e57_elements.specs.Tree.{Element, preorder}
 use Rattle.e57_elements.specs.Nested.{only_space, Nested}
 use Rattle.e57_elements.specs.Lawful.{IsLawful}
-use Rattle.e57_elements.specs.Fault.{limit, fault_at, IsBodyFault}
+use Rattle.e57_elements.specs.Fault.{limit, IsBodyFault}
 use Rattle.e57_elements.specs.Machine.{Open, State, reading, done, nodes_of, state_nodes, step, passes_in}
 
 -- where an open element's node stands, and the text so far
@@ -76,8 +77,8 @@ ended_node node below text = record { name = node.name; attrs = node.attrs; text
 
 -- the fault of a piece at this byte that wasn't taken
 abbrev pub take_fault : TakeFault → ℕ → TextFault
-take_fault Nest byte = failure.Refused (fault_at kind.Nest byte 0)
-take_fault (Limit b) byte = failure.Refused (fault_at kind.TreeLimit byte b)
+take_fault Nest byte = failure.Refused (fault kind.Nest byte 0)
+take_fault (Limit b) byte = failure.Refused (fault kind.TreeLimit byte b)
 take_fault Memory byte = failure.Memory
 
 -- The nodes are those of a lawful tree to which the pieces of the body nest.
@@ -91,11 +92,11 @@ pub record ReadsBody (body : List ℕ) (nodes : List RawNode) : Type 0 where
 
 -- how the reading of a body fails in a text of this length
 abbrev pub IsBodyFailure : ℕ → List ℕ → TextFault → Type 0
-IsBodyFailure len body (failure.Refused fault) = IsBodyFault len body fault
+IsBodyFailure len body (failure.Refused found) = IsBodyFault len body found
 IsBodyFailure len body failure.Memory = Unit {0}
 
 -- What comes of a builder where no piece is spelled at this byte, with or without text left.
 abbrev pub Ends : State → Bool → ℕ → Result (List RawNode) TextFault → Type 0
-Ends state false byte result = result ≡ Err (failure.Refused (fault_at kind.Piece byte 0))
-Ends (reading opens) true byte result = result ≡ Err (failure.Refused (fault_at kind.Nest byte 0))
+Ends state false byte result = result ≡ Err (failure.Refused (fault kind.Piece byte 0))
+Ends (reading opens) true byte result = result ≡ Err (failure.Refused (fault kind.Nest byte 0))
 Ends (done e) true byte result = result ≡ Ok (preorder e)

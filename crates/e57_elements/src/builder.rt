@@ -1,8 +1,6 @@
 //! The tree of the pieces that are read so far.
 
 ghost use Rattle.std.specs.Prelude.{◌≡◌, ◌<◌, ◌≤◌, ◌∷◌, ◌++◌, List, length};
-ghost use Rattle.e57_base.specs.declared.fault.TextFault.TheVariants.{Refused};
-ghost use Rattle.e57_elements.specs.Fault.{fault_at};
 
 use crate::limits::{MAX_ATTRS, MAX_DEPTH, MAX_ELEMENTS};
 use crate::text::{TextOut, is_only_space};
@@ -58,18 +56,11 @@ impl TakeFault {
         ensures { result ≡ take_fault self byte }
     {
         match self {
-            TakeFault::Nest => refused(Kind::Nest, byte, 0),
-            TakeFault::Limit(which) => refused(Kind::TreeLimit, byte, which),
+            TakeFault::Nest => TextFault::Refused(Fault::new(Kind::Nest, byte, 0)),
+            TakeFault::Limit(which) => TextFault::Refused(Fault::new(Kind::TreeLimit, byte, which)),
             TakeFault::Memory => TextFault::Memory,
         }
     }
-}
-
-/// A text that is refused with this fault.
-pub fn refused(kind: Kind, a: u64, b: u64) -> TextFault
-    ensures { result ≡ Refused (fault_at kind a b) }
-{
-    TextFault::Refused(Fault { kind, a, b })
 }
 
 impl From<AllocError> for TakeFault {
@@ -233,10 +224,10 @@ impl Builder {
     {
         let Builder { nodes, done, .. } = self;
         if !at_end {
-            return Err(refused(Kind::Piece, byte, 0));
+            return Err(TextFault::Refused(Fault::new(Kind::Piece, byte, 0)));
         }
         if !done {
-            return Err(refused(Kind::Nest, byte, 0));
+            return Err(TextFault::Refused(Fault::new(Kind::Nest, byte, 0)));
         }
         Ok(RawTree::new(nodes))
     }
