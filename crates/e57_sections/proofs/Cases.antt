@@ -9,7 +9,7 @@ use Rattle.e57_layout.specs.Headers.{section_head_at}
 use Rattle.e57_layout.specs.Packets.{sort_at, restart_at, length_at, stream_count_at, lengths_at, streams_at, streams_of}
 use Rattle.e57_layout.specs.IndexPackets.{entry_count_at, level_at, entry_at, entries_at}
 use Rattle.e57_layout.specs.Widths.{bit_length, width}
-use Rattle.e57_layout.specs.Values.{ItemKind, integers, words, strings, Value, whole, word, octets}
+use Rattle.e57_layout.specs.Values.{integers, words, strings, whole, word}
 use Rattle.e57_layout.specs.Strings.{first_prefix, first_string, string_at}
 use Rattle.e57_layout.specs.Items.{bits_at, item_at}
 use Rattle.e57_sections.specs.Section.{span_fault, logical_size, section_header_fault, section_fault, section_at}
@@ -177,11 +177,7 @@ floats-few right = rw right refl
 
 floats-item : page_fault floats 0 ≡ None → path_item floats (float_cloud 2) 0 float_leaf 1 ≡ Ok (word 0x40000000)
 unfolding bit number logical pages_fault span_fault logical_size section_head_at section_header_fault section_fault section_at sort_at restart_at length_at stream_count_at lengths_at streams_at streams_of packet_at packet_head_fault is_misshapen_data packet_fault walk walk_from entry_count_at level_at entry_at entries_at entries_of is_misshapen_index rises begins_and_rises index_shape_fault index_packet_fault target_fault each_fault entry_fault entries_below root_level root_fault index_fault entries data_packets stream_over cut by_chunk packets_by_chunk starts_fault restarts_fault counted with_records first_records chunks chunks_fault bit_length width bits_at item_at first_prefix first_string string_at float_from items_fault items_from field_fault column_of fields_fault columns_of body_fault cloud_fault records_of pick descend path stretch cover chunk_at item_in item_of path_item
-floats-item right = rw right refl
-
-floats-later_item : page_fault floats 0 ≡ None → path_item floats (float_cloud 3) 0 float_leaf 2 ≡ Ok (word 0x3f000000)
-unfolding bit number logical pages_fault span_fault logical_size section_head_at section_header_fault section_fault section_at sort_at restart_at length_at stream_count_at lengths_at streams_at streams_of packet_at packet_head_fault is_misshapen_data packet_fault walk walk_from entry_count_at level_at entry_at entries_at entries_of is_misshapen_index rises begins_and_rises index_shape_fault index_packet_fault target_fault each_fault entry_fault entries_below root_level root_fault index_fault entries data_packets stream_over cut by_chunk packets_by_chunk starts_fault restarts_fault counted with_records first_records chunks chunks_fault bit_length width bits_at item_at first_prefix first_string string_at float_from items_fault items_from field_fault column_of fields_fault columns_of body_fault cloud_fault records_of pick descend path stretch cover chunk_at item_in item_of path_item
-floats-later_item right = rw (right, right) refl
+floats-item right = rw (right, right) refl
 
 -- ---- a section of four fields on page 1 of a file
 
