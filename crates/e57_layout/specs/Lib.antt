@@ -9,3 +9,4 @@ pub mod Strings
 pub mod Items
 pub mod Packing
 pub mod Written
+pub mod Laws

@@ -1,0 +1,5 @@
+-- What holds of the layouts, of items, and of how records are cut.
+pub mod Numbers
+pub mod Standing
+pub mod Layouts
+pub mod Packing
