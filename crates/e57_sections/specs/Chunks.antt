@@ -1,5 +1,6 @@
 -- The chunks of a section: its data packets, cut where a packet has the restart flag, and the records of each.
 use Rattle.std.specs.Prelude.{ℕ, ◌+◌, ◌/◌, ◌==◌, ◌||◌, ◌&&◌, not, nat_lt, if◌then◌else◌, List, [], ◌∷◌, length, map, get_or, Option, Some, None, filter, flat_map}
+use Rattle.std.specs.List.{onto_first}
 use Rattle.std.specs.Option.{option_or}
 use Rattle.e57_base.specs.declared.fault.Fault.{Fault}
 use Rattle.e57_base.specs.declared.kind.Kind.TheVariants.{IndexTarget, RestartUnindexed}
@@ -15,14 +16,10 @@ unfoldable pub data_packets : List Packet → List Packet
 data_packets packets = filter (λ (p : Packet). p.is_data) packets
 
 -- the bytes of field f over packets, one after another
-unfoldable pub stream_over : ℕ → List Packet → List ℕ
-stream_over f packets = flat_map (λ (p : Packet). get_or p.streams f []) packets
+unfoldable pub stream_of : ℕ → List Packet → List ℕ
+stream_of f packets = flat_map (λ (p : Packet). get_or p.streams f []) packets
 
 -- ---- cutting
-
-abbrev pub onto_first : Packet → List (List Packet) → List (List Packet)
-onto_first p [] = (p ∷ []) ∷ []
-onto_first p (piece ∷ pieces) = (p ∷ piece) ∷ pieces
 
 -- cut before each packet with restart: what comes before the first such packet, and then the pieces
 unfoldable pub cut : List Packet → List (List Packet)
@@ -67,7 +64,7 @@ starts_fault s j (e ∷ es) ((p ∷ ps) ∷ chunks) = option_or (compared s j e 
 -- how many whole items the first Float field has over packets; none where no field is a Float
 abbrev pub float_items : Option Fixed → List Packet → ℕ
 float_items None packets = 0
-float_items (Some fixed) packets = length (stream_over fixed.field packets) / fixed.bytes
+float_items (Some fixed) packets = length (stream_of fixed.field packets) / fixed.bytes
 
 abbrev pub start_of : List Packet → ℕ
 start_of [] = 0

@@ -11,7 +11,7 @@ use Rattle.e57_layout.specs.declared.field.Fixed.{Fixed}
 use Rattle.e57_sections.specs.Section.{section_fault, section_at}
 use Rattle.e57_sections.specs.Walk.{walk_from}
 use Rattle.e57_sections.specs.Index.{index_fault}
-use Rattle.e57_sections.specs.Chunks.{Chunk, stream_over, chunks, chunks_fault}
+use Rattle.e57_sections.specs.Chunks.{Chunk, stream_of, chunks, chunks_fault}
 
 -- a field of a cloud: the number of its node, and what its items are
 pub record Leaf : Type 0 where
@@ -72,7 +72,7 @@ items_from look k (suc n) = value_of (look k) ∷ items_from look (k + 1) n
 
 -- item k of field f in a chunk
 abbrev pub chunk_item : ℕ → ItemKind → Chunk → ℕ → Outcome
-chunk_item f kind chunk k = item_at kind (stream_over f chunk.packets) k
+chunk_item f kind chunk k = item_at kind (stream_of f chunk.packets) k
 
 unfoldable pub field_fault : ℕ → Leaf → List Chunk → Option Fault
 field_fault f leaf [] = None

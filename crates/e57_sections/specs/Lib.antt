@@ -5,3 +5,4 @@ pub mod Chunks
 pub mod Cloud
 pub mod PathItem
 pub mod Met
+pub mod Laws

@@ -15,7 +15,7 @@ use Rattle.e57_layout.specs.declared.field.Fixed.{Fixed}
 use Rattle.e57_sections.specs.Section.{section_fault, logical_size, or_zero}
 use Rattle.e57_sections.specs.Walk.{Packet, is_data_at, packet_head_fault, walk_from}
 use Rattle.e57_sections.specs.Index.{known_place, entries_of, index_shape_fault, index_packet_fault, root_fault, root_level, root_entry}
-use Rattle.e57_sections.specs.Chunks.{data_packets, stream_over, by_chunk, float_items}
+use Rattle.e57_sections.specs.Chunks.{data_packets, stream_of, by_chunk, float_items}
 use Rattle.e57_sections.specs.Cloud.{Leaf, Cloud, fixed_of, section_of}
 use Rattle.e57_sections.specs.PathItem.{ChunkAt, Stretch, stretch, is_covered, pick, constant_of, path}
 
@@ -91,7 +91,7 @@ is_short (out_of_range k) = false
 
 -- these packets of a chunk with this first record end before field f of record i
 unfoldable pub lacks_item : ℕ → ItemKind → ℕ → ℕ → List Packet → Bool
-lacks_item f kind i first packets = is_short (item_at kind (stream_over f (data_packets packets)) (i - first))
+lacks_item f kind i first packets = is_short (item_at kind (stream_of f (data_packets packets)) (i - first))
 
 -- the same, or they have too few items of the first Float field to tell that record i is of this chunk
 unfoldable pub lacks_record : Fixed → ℕ → ItemKind → ℕ → ℕ → List Packet → Bool

@@ -14,7 +14,7 @@ use Rattle.e57_layout.specs.declared.field.Fixed.{Fixed}
 use Rattle.e57_sections.specs.Section.{section_fault, or_zero}
 use Rattle.e57_sections.specs.Walk.{Packet, walk_from}
 use Rattle.e57_sections.specs.Index.{known_place, entries_of, index_packet_fault, target_fault, root_fault, root_level, root_entry}
-use Rattle.e57_sections.specs.Chunks.{data_packets, stream_over, by_chunk, float_items, start_of}
+use Rattle.e57_sections.specs.Chunks.{data_packets, stream_of, by_chunk, float_items, start_of}
 use Rattle.e57_sections.specs.Cloud.{Leaf, Cloud, fixed_of, section_of}
 
 -- the chunk of a record: its first record, the first record past it, and the place of its first packet
@@ -127,7 +127,7 @@ ended_by s fixed w = option_or w.fault (restart_fault s fixed w.next)
 unfoldable pub item_in : List ℕ → Section → Option Fixed → ℕ → ℕ → (List ℕ → ℕ → Outcome) → ℕ → ChunkAt → Result Value Fault
 item_in file s fixed f node look i chunk =
     answer node chunk.first (ended_by s fixed (stretch file s chunk.place))
-    (look (stream_over f (stretch file s chunk.place).packets) (i - chunk.first))
+    (look (stream_of f (stretch file s chunk.place).packets) (i - chunk.first))
 
 -- the item of a field whose items take no bits
 abbrev pub constant_of : ItemKind → Option Value
