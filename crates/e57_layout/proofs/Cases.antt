@@ -1,6 +1,6 @@
 -- Cases that compute: the bytes of small sections, their packets, entries and items, and widths.
-use Rattle.std.proofs.Common.{◌≡◌, ℕ, ◌+◌, Bool, true, false, List, [], ◌∷◌, ◌++◌, refl, length}
-use Rattle.std.specs.Prelude.{ℤ, pos, negsuc, replicate}
+use Rattle.std.proofs.Common.{◌≡◌, ℕ, ◌+◌, true, false, List, [], ◌∷◌, ◌++◌, refl}
+use Rattle.std.specs.Prelude.{pos, negsuc}
 use Rattle.e57_bits.specs.Bits.{number, bit}
 use Rattle.e57_layout.specs.declared.section.SectionHeader.{SectionHeader}
 use Rattle.e57_layout.specs.declared.packet.Entry.{Entry}
@@ -9,10 +9,10 @@ use Rattle.e57_layout.specs.Headers.{section_head, section_head_at}
 use Rattle.e57_layout.specs.Packets.{packet_head, whole_words, padding, data_size, stream_lengths, data_packet, sort_at, restart_at, length_at, stream_count_at, lengths_at, streams_at, streams_of}
 use Rattle.e57_layout.specs.IndexPackets.{index_head, entry_bytes, index_packet, entry_count_at, level_at, entry_at, entries_at}
 use Rattle.e57_layout.specs.Widths.{bit_length, width}
-use Rattle.e57_layout.specs.Values.{ItemKind, integers, words, strings, Value, whole, word, octets, Outcome, here, short, over_limit, out_of_range}
+use Rattle.e57_layout.specs.Values.{ItemKind, integers, words, strings, Value, whole, word, octets, here, short, over_limit, out_of_range}
 use Rattle.e57_layout.specs.Strings.{first_prefix, first_string, string_at, string_length_at, string_prefix, string_bytes_of}
 use Rattle.e57_layout.specs.Items.{bits_at, item_at, stored, octets_of, field_bytes}
-use Rattle.e57_layout.specs.Packing.{first_records, later_records, Block, cut_blocks, blocks, group_streams, join_streams, fits_packet, packets_of, chunk_groups, chunk_packets}
+use Rattle.e57_layout.specs.Packing.{first_records, later_records, cut_blocks, blocks, group_streams, join_streams, fits_packet, packets_of, chunk_groups, chunk_packets}
 use Rattle.e57_layout.specs.Written.{physical, packet_bytes, flagged, chunk_spelled, chunks_spelled, chunk_entries, cut_runs, entry_runs, level_spelled, upper_entries, index_spelled, root_place, data_spelled, packets_spelled, section_spelled}
 
 -- ---- a section of three records with four fields, at logical place 1020
@@ -241,4 +241,3 @@ other-items-0 = refl
 other-items-1 : (item_at (integers (pos 0) (pos 1)) (240 ∷ []) 0 ∷ item_at (integers (pos 0) (pos 1)) (240 ∷ []) 1 ∷ item_at (integers (pos 0) (pos 1)) (240 ∷ []) 2 ∷ item_at (integers (pos 0) (pos 1)) (240 ∷ []) 3 ∷ item_at (integers (pos 0) (pos 1)) (240 ∷ []) 4 ∷ item_at (integers (pos 0) (pos 1)) (240 ∷ []) 5 ∷ item_at (integers (pos 0) (pos 1)) (240 ∷ []) 6 ∷ item_at (integers (pos 0) (pos 1)) (240 ∷ []) 7 ∷ item_at (integers (pos 0) (pos 1)) (240 ∷ []) 8 ∷ []) ≡ (here (whole (pos 0)) ∷ here (whole (pos 0)) ∷ here (whole (pos 0)) ∷ here (whole (pos 0)) ∷ here (whole (pos 1)) ∷ here (whole (pos 1)) ∷ here (whole (pos 1)) ∷ here (whole (pos 1)) ∷ short 8 ∷ [])
 unfolding bit number low_bytes joined packed section_head section_head_at packet_head whole_words padding data_size stream_lengths data_packet sort_at restart_at length_at stream_count_at lengths_at streams_at streams_of index_head entry_bytes index_packet entry_count_at level_at entry_at entries_at bit_length width first_prefix first_string string_at string_length_at string_prefix string_bytes_of bits_at item_at stored octets_of field_bytes first_records later_records cut_blocks blocks group_streams join_streams fits_packet packets_of chunk_groups chunk_packets physical packet_bytes flagged chunk_spelled chunks_spelled chunk_entries cut_runs entry_runs level_spelled upper_entries index_spelled root_place data_spelled packets_spelled section_spelled
 other-items-1 = refl
-

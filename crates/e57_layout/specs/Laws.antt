@@ -3,3 +3,10 @@ pub mod Numbers
 pub mod Standing
 pub mod Layouts
 pub mod Packing
+pub mod Widths
+pub mod Items
+pub mod Blocks
+pub mod Chunks
+pub mod Steps
+pub mod Index
+pub mod Written

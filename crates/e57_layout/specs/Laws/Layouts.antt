@@ -1,6 +1,6 @@
 -- Laws of headers and packets: one that is spelled at a place is read there as itself.
-use Rattle.std.proofs.Common.{◌≡◌, ℕ, zero, suc, ◌+◌, ◌-◌, ◌*◌, ◌/◌, ◌%◌, ◌^◌, ◌<◌, ◌≤◌, ◌==◌, Bool, true, false, List, [], ◌∷◌, ◌++◌, length, take, drop, map, replicate, refl, sym, ap, ◌∙◌, subst, arith, add-zero, length-append, lit<, lit≤}
-use Rattle.std.specs.List.{flat_map, concat, sum, AllByRecursion}
+use Rattle.std.proofs.Common.{◌≡◌, ℕ, ◌+◌, ◌-◌, ◌*◌, ◌%◌, ◌^◌, ◌<◌, ◌≤◌, ◌==◌, Bool, true, false, List, [], ◌∷◌, ◌++◌, length, take, drop, replicate, refl, sym, ap, ◌∙◌, subst, arith, length-append, lit<}
+use Rattle.std.specs.List.{flat_map, concat, AllByRecursion}
 use Rattle.std.proofs.lemmas.List.{length-map, length-replicate}
 use Rattle.std.proofs.lemmas.List.Sums.{sum_by-cons}
 use Rattle.e57_bits.specs.Bits.{number}
@@ -15,8 +15,8 @@ use Rattle.e57_layout.specs.Standing.{Stands}
 use Rattle.e57_layout.specs.Headers.{section_head, section_head_at, blob_head_of, blob_head_at}
 use Rattle.e57_layout.specs.Packets.{packet_head, whole_words, padding, lengths, total, data_size, stream_lengths, flag, data_head, data_packet, sort_at, restart_at, length_at, packet_head_at, stream_count_at, lengths_at, streams_at, streams_of}
 use Rattle.e57_layout.specs.IndexPackets.{index_head, entry_bytes, index_size, index_packet, entry_count_at, level_at, entry_at, entries_at}
-use Rattle.e57_layout.specs.Laws.Numbers.{AreBelow, length-low_bytes, number-low_bytes, low_bytes-suc}
-use Rattle.e57_layout.specs.Laws.Standing.{Stands-front, Stands-behind, Stands-low_bytes, Stands-number, Stands-past, Stands-past_number, Stands-number_first}
+use Rattle.e57_layout.specs.Laws.Numbers.{AreBelow, length-low_bytes}
+use Rattle.e57_layout.specs.Laws.Standing.{Stands-front, Stands-behind, Stands-low_bytes, Stands-past, Stands-past_number, Stands-number_first}
 
 -- ---- the headers of sections
 

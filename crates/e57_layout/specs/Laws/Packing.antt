@@ -1,8 +1,8 @@
 -- Laws of how groups are put into packets: nothing is lost or turned round, each packet has a stream for each field, and
 -- each is within a packet's limit.
-use Rattle.std.proofs.Common.{◌≡◌, ℕ, zero, suc, ◌+◌, ◌-◌, ◌*◌, ◌^◌, ◌<◌, ◌≤◌, ◌==◌, min, Bool, true, false, cond, List, [], ◌∷◌, ◌++◌, length, take, drop, get_or, Option, Some, None, refl, sym, ap, ◌∙◌, arith, add-zero, length-append, length-take, length-drop, append_assoc, append-nil}
-use Rattle.std.specs.List.{flat_map, AllByRecursion}
-use Rattle.std.proofs.lemmas.Bool.{leb-true, leb-false, eqb-true, eqb-false, cond_both}
+use Rattle.std.proofs.Common.{◌≡◌, ℕ, zero, suc, ◌+◌, ◌-◌, ◌*◌, ◌<◌, ◌≤◌, ◌==◌, min, Bool, true, false, cond, List, [], ◌∷◌, ◌++◌, length, take, drop, get_or, Option, Some, None, refl, sym, ap, ◌∙◌, arith, length-append, length-take, length-drop, append_assoc, append-nil}
+use Rattle.std.specs.List.{AllByRecursion}
+use Rattle.std.proofs.lemmas.Bool.{leb-true, leb-false, eqb-true, cond_both}
 use Rattle.std.proofs.lemmas.List.{take-append-drop}
 use Rattle.std.proofs.lemmas.List.Concat.{flat_map-append}
 use Rattle.e57_layout.specs.Packets.{total, data_size}
@@ -150,7 +150,7 @@ poured-some n ss h few large =
 abbrev pub IsRun : ℕ → Option (List (List ℕ)) → Type 0
 IsRun n run = AllByRecursion (IsPacket n) (flushed run)
 
-fits-run : (n : ℕ) (group : List (List ℕ)) → HasStreams n group → fits_packet group ≡ true → IsRun n (Some group)
+pub fits-run : (n : ℕ) (group : List (List ℕ)) → HasStreams n group → fits_packet group ≡ true → IsRun n (Some group)
 fits-run n group h within = (record { count = h; fits = fits-true group within }, tt)
 
 -- the three ways on
