@@ -1,25 +1,24 @@
 -- Laws of the index: that of a written one has no fault, and leads to the entries that it was given.
-use Rattle.std.specs.Prelude.{◌≡◌, ℕ, zero, suc, ◌+◌, ◌-◌, ◌*◌, ◌/◌, ◌%◌, ◌^◌, ◌<◌, ◌≤◌, ◌⊎◌, ◌==◌, nat_lt, nat_le, ◌&&◌, Bool, true, false, List, [], ◌∷◌, ◌++◌, length, take, drop, Option, Some, None}
+use Rattle.std.specs.Prelude.{◌≡◌, ℕ, zero, suc, ◌+◌, ◌*◌, ◌/◌, ◌%◌, ◌^◌, ◌<◌, ◌≤◌, ◌==◌, nat_lt, nat_le, ◌&&◌, true, false, List, [], ◌∷◌, ◌++◌, length, Option, Some, None}
 use Rattle.std.specs.List.{AllByRecursion, flat_map}
 use Rattle.std.specs.Option.{option_or}
-use Rattle.std.proofs.Common.{refl, sym, ap, subst, ◌∙◌, arith, ⊎_elim, length-append, length-take, length-drop, append-nil, add-one, pow-suc}
-use Rattle.std.proofs.lemmas.Bool.{lt-ltb, le-ltb, le-leb, lt-leb, leb-true, ltb-true, eq-eqb, ne_eqb, and_parts, cases_lt}
-use Rattle.std.proofs.lemmas.List.{take-append-drop}
+use Rattle.std.proofs.Common.{refl, sym, ap, subst, ◌∙◌, arith, ⊎_elim, length-append, append-nil, add-one, pow-suc}
+use Rattle.std.proofs.lemmas.Bool.{lt-ltb, le-ltb, le-leb, leb-true, ltb-true, eq-eqb, ne_eqb, and_parts, cases_lt}
 use Rattle.std.proofs.lemmas.List.Concat.{flat_map-append}
 use Rattle.e57_base.specs.declared.fault.Fault.{Fault}
 use Rattle.e57_page.specs.Place.{place}
 use Rattle.e57_page.specs.File.{logical}
 use Rattle.e57_layout.specs.Standing.{Stands}
-use Rattle.e57_layout.specs.Packets.{length_at}
-use Rattle.e57_layout.specs.IndexPackets.{index_packet, index_size, level_at, entry_count_at}
-use Rattle.e57_layout.specs.Written.{physical, Spelled, entries_packet, packet_bytes, packets_bytes, first_record, cut_runs, entry_runs, level_spelled, level_size, upper_entries, index_spelled, root_place}
+use Rattle.e57_layout.specs.IndexPackets.{index_packet, index_size, level_at}
+use Rattle.e57_layout.specs.Written.{physical, packet_bytes, packets_bytes, first_record, entry_runs, level_spelled, level_size, upper_entries, index_spelled, root_place}
 use Rattle.e57_layout.specs.Laws.Standing.{Stands-front, Stands-behind}
-use Rattle.e57_layout.specs.Laws.Layouts.{IsEntry, ReadsIndex, index_packet-read, length-index_packet}
+use Rattle.e57_layout.specs.Laws.Layouts.{IsEntry, index_packet-read, length-index_packet}
+use Rattle.e57_layout.specs.Laws.Index.{IsEntryRun, entry_runs-are, entry_runs-all, entry_runs-joined, entry_runs-count, length-upper_entries, index_spelled-last, index_spelled-more, root_place-last, root_place-more}
 use Rattle.e57_layout.specs.declared.packet.Entry.{Entry}
 use Rattle.e57_layout.specs.declared.section.Section.{Section}
 use Rattle.e57_sections.specs.Section.{span_fault, logical_size}
-use Rattle.e57_sections.specs.Index.{known_place, entries_of, is_misshapen_index, rises, begins_and_rises, index_start_fault, index_shape_fault, index_packet_fault, target_fault, next_first, each_fault, entry_fault, entries_below, root_entry, root_level, root_fault, index_fault, entries}
-use Rattle.e57_sections.specs.Laws.Spans.{AreRight, span-right, or-none, none-or}
+use Rattle.e57_sections.specs.Index.{known_place, entries_of, is_misshapen_index, rises, begins_and_rises, index_start_fault, index_shape_fault, index_packet_fault, next_first, each_fault, entry_fault, entries_below, root_level, root_fault, index_fault, entries}
+use Rattle.e57_sections.specs.Laws.Spans.{AreRight, span-right, or-none}
 use Rattle.e57_sections.specs.Laws.Walks.{IsIndexPacket}
 
 -- ---- places
@@ -225,68 +224,22 @@ level-sound file s level q least bound ((x ∷ xs) ∷ runs) has =
 
 -- ---- how entries are cut into runs
 
-runs-nil : (most : ℕ) → cut_runs most [] ≡ []
-unfolding cut_runs
-runs-nil zero = refl
-runs-nil (suc most) = refl
-
--- the runs one after another are the entries
-runs-all : (most : ℕ) (es : List Entry) → length es ≤ most → all_of (cut_runs most es) ≡ es
-unfolding cut_runs
-runs-all zero [] enough = refl
-runs-all zero (e ∷ es) enough = absurd (omega arith)
-runs-all (suc most) [] enough = refl
-runs-all (suc most) (e ∷ es) enough =
-    let later : length (drop 2048 (e ∷ es)) ≤ most = rw length-drop (omega arith) in
-    rw (runs-all most (drop 2048 (e ∷ es)) later) (take-append-drop 2048 (e ∷ es))
-
-all-take : {X : Type 0} (P : X → Type 0) (n : ℕ) (xs : List X) → AllByRecursion P xs → AllByRecursion P (take n xs)
-all-take P zero xs all = tt
-all-take P (suc n) [] all = tt
-all-take P (suc n) (x ∷ xs) all = (all.0, all-take P n xs all.1)
-
-all-drop : {X : Type 0} (P : X → Type 0) (n : ℕ) (xs : List X) → AllByRecursion P xs → AllByRecursion P (drop n xs)
-all-drop P zero xs all = all
-all-drop P (suc n) [] all = tt
-all-drop P (suc n) (x ∷ xs) all = all-drop P n xs all.1
-
--- each run is one index packet's
-runs-fit : (level most : ℕ) (es : List Entry) → level < 2 ^ 8 → AllByRecursion IsEntry es → AllByRecursion (IsIndexPacket level) (cut_runs most es)
-unfolding cut_runs
-runs-fit level zero es small room = tt
-runs-fit level (suc most) [] small room = tt
-runs-fit level (suc most) (e ∷ es) small room =
-    (
-      record { small = small; some = rw length-take (omega arith); few = rw length-take (omega arith); room = all-take IsEntry 2048 (e ∷ es) room },
-      runs-fit level most (drop 2048 (e ∷ es)) small (all-drop IsEntry 2048 (e ∷ es) room),
-    )
-
-runs-few : (k most : ℕ) (es : List Entry) → length es ≤ 2048 * k → length (cut_runs most es) ≤ k
-unfolding cut_runs
-runs-few k zero es few = omega arith
-runs-few k (suc most) [] few = omega arith
-runs-few zero (suc most) (e ∷ es) few = absurd (omega arith)
-runs-few (suc k) (suc most) (e ∷ es) few =
-    let later : length (drop 2048 (e ∷ es)) ≤ 2048 * k = rw length-drop (omega arith) in
-    let rest = runs-few k most (drop 2048 (e ∷ es)) later in
-    omega arith
-
-runs-some : (most : ℕ) (es : List Entry) → 0 < length es → length es ≤ most → 0 < length (cut_runs most es)
-unfolding cut_runs
-runs-some most [] some enough = absurd (omega arith)
-runs-some zero (e ∷ es) some enough = absurd (omega arith)
-runs-some (suc most) (e ∷ es) some enough = omega arith
-
 -- a single run is all entries
 one-run : (runs : List (List Entry)) → 0 < length runs → length runs ≤ 1 → runs ≡ all_of runs ∷ []
 one-run [] some few = absurd (omega arith)
 one-run (run ∷ []) some few = ap (λ (es : List Entry). es ∷ []) (sym (append-nil run))
 one-run (run ∷ next ∷ runs) some few = absurd (omega arith)
 
-length-upper : (q : ℕ) (runs : List (List Entry)) → length (upper_entries q runs) ≡ length runs
-unfolding upper_entries
-length-upper q [] = refl
-length-upper q (run ∷ runs) = ap suc (length-upper (q + index_size (length run)) runs)
+-- each run is one index packet's
+runs-fit : (level : ℕ) (runs : List (List Entry)) → level < 2 ^ 8 → AllByRecursion IsEntryRun runs → AllByRecursion (AllByRecursion IsEntry) runs → AllByRecursion (IsIndexPacket level) runs
+runs-fit level [] small are room = tt
+runs-fit level (run ∷ runs) small are room = (record { small = small; some = are.0.some; few = are.0.most; room = room.0 }, runs-fit level runs small are.1 room.1)
+
+entry_runs-fit : (level : ℕ) (es : List Entry) → level < 2 ^ 8 → AllByRecursion IsEntry es → AllByRecursion (IsIndexPacket level) (entry_runs es)
+entry_runs-fit level es small room = runs-fit level (entry_runs es) small (entry_runs-are es) (entry_runs-all IsEntry es room)
+
+runs_few-more : (k : ℕ) (es : List Entry) → length es ≤ 2048 ^ suc k → length (entry_runs es) ≤ 2048 ^ k
+runs_few-more k es few = let count = entry_runs-count es in omega (arith, pow-suc 2048 k)
 
 upper-room : (level q least bound : ℕ) (runs : List (List Entry)) → bound ≤ 2 ^ 64 → q + length (packets_bytes (level_spelled level runs)) ≤ 2 ^ 60 → Rises least bound (upper_entries q runs) → AllByRecursion IsEntry (upper_entries q runs)
 unfolding upper_entries level_spelled packet_bytes
@@ -347,35 +300,14 @@ pub record HasIndex (file : List ℕ) (s : Section) (most level q : ℕ) (es : L
   pub up : Rises 0 s.count es
   pub sound : each_fault (entry_fault file s level) s.count es ≡ None
 
-spelled-one : (most level q : ℕ) (es : List Entry) → length (entry_runs es) ≤ 1 → index_spelled (suc most) level q es ≡ level_spelled level (entry_runs es)
-unfolding index_spelled
-spelled-one most level q es few = rw (le-leb (length (entry_runs es)) 1 few) (append-nil (level_spelled level (entry_runs es)))
-
-spelled-more : (most level q : ℕ) (es : List Entry) → 1 < length (entry_runs es) → index_spelled (suc most) level q es ≡ level_spelled level (entry_runs es) ++ index_spelled most (level + 1) (q + level_size level (entry_runs es)) (upper_entries q (entry_runs es))
-unfolding index_spelled
-spelled-more most level q es many = rw (lt-leb (length (entry_runs es)) 1 many)
-
-root-one : (most level q : ℕ) (es : List Entry) → length (entry_runs es) ≤ 1 → root_place (suc most) level q es ≡ q
-unfolding root_place
-root-one most level q es few = rw (le-leb (length (entry_runs es)) 1 few)
-
-root-more : (most level q : ℕ) (es : List Entry) → 1 < length (entry_runs es) → root_place (suc most) level q es ≡ root_place most (level + 1) (q + level_size level (entry_runs es)) (upper_entries q (entry_runs es))
-unfolding root_place
-root-more most level q es many = rw (lt-leb (length (entry_runs es)) 1 many)
-
-runs-are : (es : List Entry) → all_of (entry_runs es) ≡ es
-unfolding entry_runs
-runs-are es = runs-all (length es) es (omega arith)
-
 index-one : (file : List ℕ) (s : Section) (most level q : ℕ) (es : List Entry) → HasIndex file s most level q es → length (entry_runs es) ≤ 1 → IsIndexOf file s (flat_map (entries_below file level) es)
-unfolding entry_runs level_spelled packet_bytes
+unfolding level_spelled packet_bytes
 index-one file s most level q es has few =
-    let runs = cut_runs (length es) es in
-    let some : 0 < length runs = runs-some (length es) es has.some (omega arith) in
-    let one : runs ≡ es ∷ [] = one-run runs some few ∙ ap (λ (all : List Entry). all ∷ []) (runs-are es) in
-    let spelled = spelled-one most level q es few in
+    let some : 0 < length (entry_runs es) = let count = entry_runs-count es in omega (arith, has.some) in
+    let one : entry_runs es ≡ es ∷ [] = one-run (entry_runs es) some few ∙ ap (λ (all : List Entry). all ∷ []) (entry_runs-joined es) in
+    let spelled = index_spelled-last most level q es few in
     let bytes : packets_bytes (index_spelled (suc most) level q es) ≡ index_packet level es = rw (spelled, one) (append-nil (index_packet level es)) in
-    let fit = runs-fit level (length es) es (omega (arith, has.low)) has.room in
+    let fit = entry_runs-fit level es (omega (arith, has.low)) has.room in
     root-sound file s level q es
     (record {
       right = has.right;
@@ -385,24 +317,12 @@ index-one file s most level q es has few =
       fits = (rw one at fit).0;
       stands = rw bytes at has.stands;
     })
-    (omega (arith, has.low)) (has.root ∙ ap physical (root-one most level q es few)) has.begins has.up has.sound
-
-runs_few-one : (es : List Entry) → length es ≤ 2048 ^ 1 → length (entry_runs es) ≤ 1
-unfolding entry_runs
-runs_few-one es few = runs-few 1 (length es) es few
-
-runs_few-more : (k : ℕ) (es : List Entry) → length es ≤ 2048 ^ suc k → length (entry_runs es) ≤ 2048 ^ k
-unfolding entry_runs
-runs_few-more k es few = runs-few (2048 ^ k) (length es) es (omega (arith, pow-suc 2048 k))
-
-entry_runs-fit : (level : ℕ) (es : List Entry) → level < 2 ^ 8 → AllByRecursion IsEntry es → AllByRecursion (IsIndexPacket level) (entry_runs es)
-unfolding entry_runs
-entry_runs-fit level es small room = runs-fit level (length es) es small room
+    (omega (arith, has.low)) (has.root ∙ ap physical (root_place-last most level q es few)) has.begins has.up has.sound
 
 -- more than one packet: the packets of this level
 level-has : (file : List ℕ) (s : Section) (most level q : ℕ) (es : List Entry) → HasIndex file s most level q es → 1 < length (entry_runs es) → HasLevel file s level q 0 s.count (entry_runs es)
 level-has file s most level q es has many =
-    let spelled = spelled-more most level q es many in
+    let spelled = index_spelled-more most level q es many in
     let low = level_spelled level (entry_runs es) in
     let high = index_spelled most (level + 1) (q + level_size level (entry_runs es)) (upper_entries q (entry_runs es)) in
     let bytes : packets_bytes (index_spelled (suc most) level q es) ≡ packets_bytes low ++ packets_bytes high = ap packets_bytes spelled ∙ flat_map-append packet_bytes low high in
@@ -416,22 +336,22 @@ level-has file s most level q es has many =
       fits = entry_runs-fit level es (omega (arith, has.low)) has.room;
       stands = Stands-front (logical file) q (packets_bytes low) (packets_bytes high) stands;
       low = omega arith;
-      up = subst (λ (all : List Entry). Rises 0 s.count all) (sym (runs-are es)) has.up;
-      sound = rw runs-are has.sound;
+      up = subst (λ (all : List Entry). Rises 0 s.count all) (sym (entry_runs-joined es)) has.up;
+      sound = rw entry_runs-joined has.sound;
     }
 
 -- and the levels above
 rest-has : (file : List ℕ) (s : Section) (most level q : ℕ) (es : List Entry) → HasIndex file s (suc most) level q es → 1 < length (entry_runs es) → IsLevel file s level q 0 s.count (entry_runs es)
     → HasIndex file s most (suc level) (q + level_size level (entry_runs es)) (upper_entries q (entry_runs es))
 rest-has file s most level q es has many lv =
-    let spelled = subst (λ (n : ℕ). index_spelled (suc (suc most)) level q es ≡ level_spelled level (entry_runs es) ++ index_spelled (suc most) n (q + level_size level (entry_runs es)) (upper_entries q (entry_runs es))) (add-one level) (spelled-more (suc most) level q es many) in
-    let rooted = subst (λ (n : ℕ). root_place (suc (suc most)) level q es ≡ root_place (suc most) n (q + level_size level (entry_runs es)) (upper_entries q (entry_runs es))) (add-one level) (root-more (suc most) level q es many) in
+    let spelled = subst (λ (n : ℕ). index_spelled (suc (suc most)) level q es ≡ level_spelled level (entry_runs es) ++ index_spelled (suc most) n (q + level_size level (entry_runs es)) (upper_entries q (entry_runs es))) (add-one level) (index_spelled-more (suc most) level q es many) in
+    let rooted = subst (λ (n : ℕ). root_place (suc (suc most)) level q es ≡ root_place (suc most) n (q + level_size level (entry_runs es)) (upper_entries q (entry_runs es))) (add-one level) (root_place-more (suc most) level q es many) in
     let low = level_spelled level (entry_runs es) in
     let high = index_spelled (suc most) (suc level) (q + level_size level (entry_runs es)) (upper_entries q (entry_runs es)) in
     let bytes : packets_bytes (index_spelled (suc (suc most)) level q es) ≡ packets_bytes low ++ packets_bytes high = ap packets_bytes spelled ∙ flat_map-append packet_bytes low high in
     let within = rw (bytes, length-append (packets_bytes low) (packets_bytes high)) at has.within in
     let stands = rw bytes at has.stands in
-    let count = length-upper q (entry_runs es) in
+    let count = length-upper_entries q (entry_runs es) in
     let few = runs_few-more (suc most) es has.few in
     record {
       right = has.right;
@@ -446,19 +366,19 @@ rest-has file s most level q es has many lv =
       few = rw count few;
       low = omega (arith, has.low);
       room = upper-room level q 0 s.count (entry_runs es) has.counted (omega (arith, has.small)) lv.up;
-      begins = lv.begins ∙ ap (next_first s.count) (runs-are es) ∙ has.begins;
+      begins = lv.begins ∙ ap (next_first s.count) (entry_runs-joined es) ∙ has.begins;
       up = lv.up;
       sound = lv.sound;
     }
 
 -- The index of entries without fault has none, and leads to what they lead to.
 pub index-sound : (file : List ℕ) (s : Section) (most level q : ℕ) (es : List Entry) → HasIndex file s most level q es → IsIndexOf file s (flat_map (entries_below file level) es)
-index-sound file s zero level q es has = index-one file s zero level q es has (runs_few-one es has.few)
+index-sound file s zero level q es has = index-one file s zero level q es has (runs_few-more 0 es has.few)
 index-sound file s (suc most) level q es has =
     ⊎_elim
     (λ (many : 1 < length (entry_runs es)).
     let lv = level-sound file s level q 0 s.count (entry_runs es) (level-has file s (suc most) level q es has many) in
     let rest = index-sound file s most (suc level) (q + level_size level (entry_runs es)) (upper_entries q (entry_runs es)) (rest-has file s most level q es has many lv) in
-    record { sound = rest.sound; leads = rest.leads ∙ lv.below ∙ ap (flat_map (entries_below file level)) (runs-are es) })
+    record { sound = rest.sound; leads = rest.leads ∙ lv.below ∙ ap (flat_map (entries_below file level)) (entry_runs-joined es) })
     (λ (few : length (entry_runs es) ≤ 1). index-one file s (suc most) level q es has few)
     (cases_lt 1 (length (entry_runs es)))
