@@ -2,3 +2,4 @@
 pub mod Spans
 pub mod Walks
 pub mod Indexes
+pub mod Chunks
