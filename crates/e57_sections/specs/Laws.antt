@@ -3,3 +3,4 @@ pub mod Spans
 pub mod Walks
 pub mod Indexes
 pub mod Chunks
+pub mod Columns
