@@ -4,3 +4,4 @@ pub mod Walks
 pub mod Indexes
 pub mod Chunks
 pub mod Columns
+pub mod Entries

@@ -235,10 +235,10 @@ runs-fit : (level : ℕ) (runs : List (List Entry)) → level < 2 ^ 8 → AllByR
 runs-fit level [] small are room = tt
 runs-fit level (run ∷ runs) small are room = (record { small = small; some = are.0.some; few = are.0.most; room = room.0 }, runs-fit level runs small are.1 room.1)
 
-entry_runs-fit : (level : ℕ) (es : List Entry) → level < 2 ^ 8 → AllByRecursion IsEntry es → AllByRecursion (IsIndexPacket level) (entry_runs es)
+pub entry_runs-fit : (level : ℕ) (es : List Entry) → level < 2 ^ 8 → AllByRecursion IsEntry es → AllByRecursion (IsIndexPacket level) (entry_runs es)
 entry_runs-fit level es small room = runs-fit level (entry_runs es) small (entry_runs-are es) (entry_runs-all IsEntry es room)
 
-runs_few-more : (k : ℕ) (es : List Entry) → length es ≤ 2048 ^ suc k → length (entry_runs es) ≤ 2048 ^ k
+pub runs_few-more : (k : ℕ) (es : List Entry) → length es ≤ 2048 ^ suc k → length (entry_runs es) ≤ 2048 ^ k
 runs_few-more k es few = let count = entry_runs-count es in omega (arith, pow-suc 2048 k)
 
 upper-room : (level q least bound : ℕ) (runs : List (List Entry)) → bound ≤ 2 ^ 64 → q + length (packets_bytes (level_spelled level runs)) ≤ 2 ^ 60 → Rises least bound (upper_entries q runs) → AllByRecursion IsEntry (upper_entries q runs)
@@ -320,7 +320,7 @@ index-one file s most level q es has few =
     (omega (arith, has.low)) (has.root ∙ ap physical (root_place-last most level q es few)) has.begins has.up has.sound
 
 -- more than one packet: the packets of this level
-level-has : (file : List ℕ) (s : Section) (most level q : ℕ) (es : List Entry) → HasIndex file s most level q es → 1 < length (entry_runs es) → HasLevel file s level q 0 s.count (entry_runs es)
+pub level-has : (file : List ℕ) (s : Section) (most level q : ℕ) (es : List Entry) → HasIndex file s most level q es → 1 < length (entry_runs es) → HasLevel file s level q 0 s.count (entry_runs es)
 level-has file s most level q es has many =
     let spelled = index_spelled-more most level q es many in
     let low = level_spelled level (entry_runs es) in
@@ -341,7 +341,7 @@ level-has file s most level q es has many =
     }
 
 -- and the levels above
-rest-has : (file : List ℕ) (s : Section) (most level q : ℕ) (es : List Entry) → HasIndex file s (suc most) level q es → 1 < length (entry_runs es) → IsLevel file s level q 0 s.count (entry_runs es)
+pub rest-has : (file : List ℕ) (s : Section) (most level q : ℕ) (es : List Entry) → HasIndex file s (suc most) level q es → 1 < length (entry_runs es) → IsLevel file s level q 0 s.count (entry_runs es)
     → HasIndex file s most (suc level) (q + level_size level (entry_runs es)) (upper_entries q (entry_runs es))
 rest-has file s most level q es has many lv =
     let spelled = subst (λ (n : ℕ). index_spelled (suc (suc most)) level q es ≡ level_spelled level (entry_runs es) ++ index_spelled (suc most) n (q + level_size level (entry_runs es)) (upper_entries q (entry_runs es))) (add-one level) (index_spelled-more (suc most) level q es many) in
