@@ -5,3 +5,4 @@ pub mod Indexes
 pub mod Chunks
 pub mod Columns
 pub mod Entries
+pub mod Written

@@ -130,7 +130,7 @@ block_records-count (chunk ∷ chunks) have = let rest = block_records-count chu
 
 -- ---- packets that fit
 
-all-append : {X : Type 0} (P : X → Type 0) (xs ys : List X) → AllByRecursion P xs → AllByRecursion P ys → AllByRecursion P (xs ++ ys)
+pub all-append : {X : Type 0} (P : X → Type 0) (xs ys : List X) → AllByRecursion P xs → AllByRecursion P ys → AllByRecursion P (xs ++ ys)
 all-append P [] ys first later = later
 all-append P (x ∷ xs) ys first later = (first.0, all-append P xs ys first.1 later)
 
