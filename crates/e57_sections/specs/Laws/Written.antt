@@ -1,13 +1,13 @@
 -- The law of a written section: where it stands in right pages, it has no fault, and its records are those that it was given.
-use Rattle.std.specs.Prelude.{◌≡◌, ℕ, ◌+◌, ◌^◌, ◌<◌, ◌≤◌, ◌==◌, false, List, [], ◌∷◌, ◌++◌, length, Option, None}
+use Rattle.std.specs.Prelude.{nat_lt, ◌≡◌, ℕ, ◌+◌, ◌^◌, ◌<◌, ◌≤◌, ◌==◌, false, List, [], ◌∷◌, ◌++◌, length, Option, None, pos}
 use Rattle.std.specs.List.{AllByRecursion}
 use Rattle.std.proofs.Common.{refl, sym, subst, ◌∙◌, arith, append-nil, lit≤, lit<}
-use Rattle.std.proofs.lemmas.Bool.{ne_eqb}
+use Rattle.std.proofs.lemmas.Bool.{le-ltb, ne_eqb}
 use Rattle.std.proofs.lemmas.List.{length-map}
 use Rattle.std.proofs.lemmas.List.Concat.{flat_map-append}
 use Rattle.e57_page.specs.File.{logical}
 use Rattle.e57_layout.specs.Standing.{Stands}
-use Rattle.e57_layout.specs.Values.{ItemKind, Value}
+use Rattle.e57_layout.specs.Values.{ItemKind, strings, Value, whole}
 use Rattle.e57_layout.specs.Headers.{section_head, section_head_at}
 use Rattle.e57_layout.specs.Items.{AreColumns}
 use Rattle.e57_layout.specs.Packing.{Block, blocks}
@@ -16,21 +16,21 @@ use Rattle.e57_layout.specs.Laws.Standing.{Stands-front, Stands-behind, Stands-p
 use Rattle.e57_page.specs.FileLaws.{length-logical}
 use Rattle.e57_layout.specs.Laws.Layouts.{length-section_head, section_head-read}
 use Rattle.e57_layout.specs.Laws.Items.{IsKind}
-use Rattle.e57_layout.specs.Laws.Blocks.{block_records, IsBlock, blocks-are, blocks-records, blocks-step}
+use Rattle.e57_layout.specs.Laws.Blocks.{block_records, IsBlock, blocks-are, blocks-records, blocks-step, blocks-column, columns-at, columns-length}
 use Rattle.e57_layout.specs.Laws.Chunks.{IsChunk, chunk_packets-some}
 use Rattle.e57_layout.specs.Laws.Written.{length-packets_bytes-append, length-chunk_entries, length-section_spelled, physical_is}
 use Rattle.e57_layout.specs.declared.packet.Entry.{Entry}
 use Rattle.e57_layout.specs.declared.field.Fixed.{Fixed}
 use Rattle.e57_layout.specs.declared.section.Section.{Section}
-use Rattle.e57_sections.specs.Section.{logical_size}
+use Rattle.e57_sections.specs.Section.{span_fault, logical_size, section_header_fault, section_fault, section_at}
 use Rattle.e57_sections.specs.Walk.{walk_from}
 use Rattle.e57_sections.specs.Index.{index_fault, entries, next_first}
 use Rattle.e57_sections.specs.Chunks.{data_packets, by_chunk, packets_by_chunk, first_records, chunks, chunks_fault}
-use Rattle.e57_sections.specs.Cloud.{Leaf}
-use Rattle.e57_sections.specs.Laws.Columns.{kinds_of}
-use Rattle.e57_sections.specs.Laws.Spans.{AreRight}
+use Rattle.e57_sections.specs.Cloud.{Leaf, Cloud, float_from, body_fault, cloud_fault, records_of}
+use Rattle.e57_sections.specs.Laws.Columns.{kinds_of, AreFields, fields-found}
+use Rattle.e57_sections.specs.Laws.Spans.{span-right, AreRight}
 use Rattle.e57_sections.specs.Laws.Walks.{placed_from, placed-walk_from, IsSpelled}
-use Rattle.e57_sections.specs.Laws.Indexes.{physical-lt, HasIndex, index-sound}
+use Rattle.e57_sections.specs.Laws.Indexes.{place-physical, physical-lt, HasIndex, index-sound}
 use Rattle.e57_sections.specs.Laws.Chunks.{HavePackets, placed_chunks, placed-append, data-append, data-chunks, by_chunk-placed, starts-agree, spelled_chunks, records-agree}
 use Rattle.e57_sections.specs.Laws.Entries.{HasChunks, HaveRecords, below-zero, entries-sound, entries-rise, entries-room, block_records-count, all-append, chunks-fit, index-fit, index-no_data, root-within}
 
@@ -231,3 +231,54 @@ written-header file q n count leaves columns is =
     section_head-read (logical file) q (header_for q kinds n count columns)
     (record { id = lit< tt; length = omega arith; data_place = physical-lt (q + 32) (omega arith); index = physical-lt (root_for (q + 32) kinds n count columns) (omega (arith, root.1)) })
     (Stands-front (logical file) q (section_head (header_for q kinds n count columns)) (packets_bytes (packets_spelled (q + 32) kinds n count columns)) is.stands)
+
+-- the header has no fault
+pub written-section_fault : (file : List ℕ) (node q n count : ℕ) (leaves : List Leaf) (columns : List (List Value)) → IsWritten file q n count leaves columns → section_fault file node (physical q) ≡ None
+unfolding section_fault section_header_fault
+written-section_fault file node q n count leaves columns is =
+    let kinds = kinds_of leaves in
+    let size = length (packets_bytes (packets_spelled (q + 32) kinds n count columns)) in
+    let within : q + (32 + size) ≤ logical_size file = written-within file q n count leaves columns is in
+    let room : nat_lt (logical_size file) (q + 32) ≡ false = le-ltb (logical_size file) (q + 32) (omega arith) in
+    let head : span_fault file q 32 ≡ None = span-right file q 32 is.right (omega arith) in
+    let long : nat_lt (32 + size) 32 ≡ false = le-ltb (32 + size) 32 (omega arith) in
+    let inside : nat_lt (logical_size file) (q + (32 + size)) ≡ false = le-ltb (logical_size file) (q + (32 + size)) within in
+    let low : nat_lt (q + 32) (q + 32) ≡ false = le-ltb (q + 32) (q + 32) (omega arith) in
+    let high : nat_lt (q + (32 + size)) (q + 32) ≡ false = le-ltb (q + (32 + size)) (q + 32) (omega arith) in
+    rw (place-physical, room, head, written-header file q n count leaves columns is, long, inside, place-physical, low, high)
+
+-- and is read as the section that was written
+pub written-section_at : (file : List ℕ) (node q n count : ℕ) (leaves : List Leaf) (columns : List (List Value)) → IsWritten file q n count leaves columns
+    → section_at file node (physical q) count (length leaves) ≡ written_section node q n count leaves columns
+unfolding section_at
+written-section_at file node q n count leaves columns is = rw (place-physical, written-header file q n count leaves columns is, place-physical)
+
+-- the cloud of a written section
+abbrev pub written_cloud : ℕ → ℕ → ℕ → List Leaf → Cloud
+written_cloud node q count leaves = record { node = node; offset = physical q; count = count; leaves = leaves }
+
+-- A cloud whose section is written has no fault, and its records are the columns that were written.
+pub record IsCloud (file : List ℕ) (c : Cloud) (columns : List (List Value)) : Type 0 where
+  pub sound : cloud_fault file c ≡ None
+  pub records : records_of file c ≡ columns
+
+written-fields : (file : List ℕ) (node q n count : ℕ) (leaves : List Leaf) (columns : List (List Value)) → IsWritten file q n count leaves columns
+    → AreFields 0 leaves (spelled_chunks (kinds_of leaves) (q + 32) 0 (blocks n count columns)) columns
+written-fields file node q n count leaves columns is =
+    let kinds = kinds_of leaves in
+    let many : length kinds ≡ length leaves = length-map leaves (λ (leaf : Leaf). leaf.kind) in
+    let parts = chunks-are kinds n (blocks n count columns) (omega (arith, is.few)) is.kinds_ok (blocks-are kinds n count columns is.chunk is.columns_ok) in
+    fields-found (q + 32) 0 leaves (blocks n count columns) columns (whole (pos 0)) parts.0 (columns-length kinds count columns is.columns_ok)
+    (λ g below. blocks-column n count g columns is.chunk (omega (arith, (columns-at kinds count columns g strings is.columns_ok below).0)))
+
+pub written-cloud : (file : List ℕ) (node q n count : ℕ) (leaves : List Leaf) (columns : List (List Value)) → IsWritten file q n count leaves columns → IsCloud file (written_cloud node q count leaves) columns
+unfolding cloud_fault records_of body_fault
+written-cloud file node q n count leaves columns is =
+    let some : (count == 0) ≡ false = ne_eqb count 0 (λ none. let h : 0 < count = is.some in omega arith) in
+    let r = body-read file (written_section node q n count leaves columns) (kinds_of leaves) (blocks n count columns) (float_from 0 leaves) (written-body file node q n count leaves columns is) in
+    let fields = written-fields file node q n count leaves columns is in
+    let at = written-section_at file node q n count leaves columns is in
+    record {
+      sound = rw (some, written-section_fault file node q n count leaves columns is, at, r.indexed, r.index, r.walk, r.sound, r.chunks_are, fields.sound);
+      records = rw (some, at, r.chunks_are, fields.are);
+    }
