@@ -1,0 +1,8 @@
+-- What holds of sections: of spans, walks, the index, chunks and items.
+pub mod Spans
+pub mod Walks
+pub mod Indexes
+pub mod Chunks
+pub mod Columns
+pub mod Entries
+pub mod Written
