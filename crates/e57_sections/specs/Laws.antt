@@ -6,3 +6,4 @@ pub mod Chunks
 pub mod Columns
 pub mod Entries
 pub mod Written
+pub mod Pieces
