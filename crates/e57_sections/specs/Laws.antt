@@ -7,3 +7,4 @@ pub mod Columns
 pub mod Entries
 pub mod Written
 pub mod Pieces
+pub mod Descents

@@ -1,14 +1,14 @@
 -- Laws of the walk through one chunk: from the start of a chunk on, the walk finds its packets and where the next one starts.
-use Rattle.std.specs.Prelude.{◌≡◌, ℕ, zero, suc, ◌+◌, ◌-◌, ◌<◌, ◌≤◌, Bool, true, false, List, [], ◌∷◌, ◌++◌, length, drop, Option, Some, None}
+use Rattle.std.specs.Prelude.{◌≡◌, ℕ, suc, ◌+◌, ◌<◌, ◌≤◌, true, false, List, [], ◌∷◌, length, drop, None}
 use Rattle.std.specs.List.{onto_first}
 use Rattle.std.proofs.Common.{refl, sym, ap, subst, ◌∙◌, arith, ⊎_elim}
 use Rattle.std.proofs.lemmas.Bool.{cond-true, cond-false, cases_Bool}
 use Rattle.e57_page.specs.File.{logical}
 use Rattle.e57_layout.specs.Packets.{length_at}
 use Rattle.e57_layout.specs.declared.section.Section.{Section}
-use Rattle.e57_sections.specs.Walk.{Packet, packet_at, packet_fault, walk_from}
+use Rattle.e57_sections.specs.Walk.{Packet, packet_at, walk_from}
 use Rattle.e57_sections.specs.Chunks.{data_packets, cut, by_chunk, start_of}
-use Rattle.e57_sections.specs.PathItem.{Stretch, stretch_of, stretch}
+use Rattle.e57_sections.specs.PathItem.{stretch_of, stretch}
 use Rattle.e57_sections.specs.Laws.Walks.{walk_from-stands, IsWalk, walk_from-of, length_at-some}
 use Rattle.e57_sections.specs.Laws.Chunks.{cut-restart}
 
