@@ -8,3 +8,4 @@ pub mod Entries
 pub mod Written
 pub mod Pieces
 pub mod Descents
+pub mod Reached
