@@ -151,3 +151,13 @@ pieces-stretch file s q pieces has = rw (walk_from-of file s q has.packets has.s
 -- the packets of a walk without fault
 pub walk-pieces : (file : List ℕ) (s : Section) (q : ℕ) → (walk_from file s q).fault ≡ None → HasPieces file s q (by_chunk (data_packets (walk_from file s q).packets))
 walk-pieces file s q none = record { packets = (walk_from file s q).packets; stand = walk_from-stands file s q none; are = refl }
+
+-- where there is a second piece, there are bytes for a packet
+two-room : (file : List ℕ) (s : Section) (q : ℕ) (packets chunk next : List Packet) (more : List (List Packet)) → IsWalk file s q packets → by_chunk (data_packets packets) ≡ chunk ∷ next ∷ more → q + 4 ≤ s.end
+unfolding IsWalk
+two-room file s q [] chunk next more stand are =
+    absurd (let same : [] ∷ [] ≡ chunk ∷ next ∷ more = sym by_chunk-none ∙ ap by_chunk (sym data-none) ∙ are in let count : 1 ≡ suc (suc (length more)) = ap (λ (all : List (List Packet)). length all) same in omega arith)
+two-room file s q (x ∷ xs) chunk next more stand are = stand.0
+
+pub pieces-room : (file : List ℕ) (s : Section) (q : ℕ) (chunk next : List Packet) (more : List (List Packet)) → HasPieces file s q (chunk ∷ next ∷ more) → q + 4 ≤ s.end
+pieces-room file s q chunk next more has = two-room file s q has.packets chunk next more has.stand has.are
