@@ -9,3 +9,4 @@ pub mod Written
 pub mod Pieces
 pub mod Descents
 pub mod Reached
+pub mod Items

@@ -69,7 +69,7 @@ unfolding chunk_at
 chunk_at-indexed file s None i indexed = refl
 chunk_at-indexed file s (Some fixed) i indexed = rw indexed
 
-head-first : (count : ℕ) (es : List Entry) → head_or count (map (λ (e : Entry). e.first) es) ≡ next_first count es
+pub head-first : (count : ℕ) (es : List Entry) → head_or count (map (λ (e : Entry). e.first) es) ≡ next_first count es
 head-first count [] = refl
 head-first count (e ∷ es) = refl
 
@@ -144,12 +144,12 @@ single-reached file s chunk [] plain has sound = (
 single-reached file s chunk (next ∷ more) plain has sound = absurd (some≢none (fault RestartUnindexed s.node (start_of next)) sound)
 
 -- a later chunk needs records in the one before it, and some left
-record GoesOn (s : Section) (fixed : Option Fixed) (first : ℕ) (chunk next : List Packet) (more : List (List Packet)) : Type 0 where
+pub record GoesOn (s : Section) (fixed : Option Fixed) (first : ℕ) (chunk next : List Packet) (more : List (List Packet)) : Type 0 where
   pub some : (float_items fixed chunk == 0) ≡ false
   pub left : first + float_items fixed chunk < s.count
   pub rest : restarts_fault s fixed (first + float_items fixed chunk) next more ≡ None
 
-goes_on-from : (s : Section) (fixed : Option Fixed) (first : ℕ) (chunk next : List Packet) (more : List (List Packet)) → restarts_fault s fixed first chunk (next ∷ more) ≡ None → GoesOn s fixed first chunk next more
+pub goes_on-from : (s : Section) (fixed : Option Fixed) (first : ℕ) (chunk next : List Packet) (more : List (List Packet)) → restarts_fault s fixed first chunk (next ∷ more) ≡ None → GoesOn s fixed first chunk next more
 unfolding restarts_fault
 goes_on-from s fixed first chunk next more sound =
     ⊎_elim
