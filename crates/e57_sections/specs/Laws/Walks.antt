@@ -24,7 +24,7 @@ IsWalk file s q [] = s.end < q + 4
 IsWalk file s q (packet ∷ packets) =
     (q + 4 ≤ s.end) × (packet_fault file s q ≡ None) × (packet ≡ packet_at (logical file) q) × IsWalk file s (q + length_at (logical file) q) packets
 
-length_at-some : (b : List ℕ) (q : ℕ) → 0 < length_at b q
+pub length_at-some : (b : List ℕ) (q : ℕ) → 0 < length_at b q
 unfolding length_at
 length_at-some b q = omega arith
 
