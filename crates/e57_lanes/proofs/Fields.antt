@@ -1,5 +1,5 @@
 -- Words of bytes, shifted and masked, as bit fields.
-use Rattle.std.proofs.Common.{◌≡◌, ℕ, zero, suc, ◌+◌, ◌-◌, ◌*◌, ◌/◌, ◌%◌, ◌^◌, ◌<◌, ◌≤◌, List, [], ◌∷◌, get_or, bit_and, bit_or, refl, sym, ap, ap₂, ◌∙◌, arith, add-one, add-zero, lit<}
+use Rattle.std.proofs.Common.{◌≡◌, ℕ, zero, suc, ◌+◌, ◌-◌, ◌*◌, ◌/◌, ◌%◌, ◌^◌, ◌<◌, ◌≤◌, List, [], ◌∷◌, get_or, bit_and, bit_or, refl, sym, ap, ap₂, ◌∙◌, arith, add-one, add-zero, lit<, ◌⊎◌, inl, inr}
 use Rattle.std.proofs.Math.Nat.{mul_comm, mod-eq_of_lt, pow-le-pow_right, mul-mod_left}
 use Rattle.std.proofs.lemmas.Nat.{and_mask, or_shifted, shr_high, mod_low, pow-add, pow_pos, shl_below, or_comm, mod-pow-add, shl-shr}
 use Rattle.std.proofs.lemmas.Nat.Bits.{ones_shr}
@@ -99,3 +99,9 @@ in_nine b p s w word top e g small h k =
         ∙ ap₂ (λ y z. y % 2 ^ r * 2 ^ (64 - r) + z) (shl-shr x (64 - r)) (mul-mod_left x (2 ^ (64 - r)))
         ∙ add-zero (x % 2 ^ r * 2 ^ (64 - r))
 
+
+-- an item of 1, 2 or 4 bits whose phase is a multiple of its width lies in one byte
+pub in_one : (p w j m : ℕ) → p % w ≡ 0 → (w ≡ 1) ⊎ ((w ≡ 2) ⊎ (w ≡ 4)) → m ≡ p + j * w → m % 8 + w ≤ 8
+in_one p w j m e (inl h) g = rw h (omega arith)
+in_one p w j m e (inr (inl h)) g = let even : p % 2 ≡ 0 = rw h at e in let at : m ≡ p + j * 2 = rw h at g in rw h (omega arith)
+in_one p w j m e (inr (inr h)) g = let four : p % 4 ≡ 0 = rw h at e in let at : m ≡ p + j * 4 = rw h at g in rw h (omega arith)

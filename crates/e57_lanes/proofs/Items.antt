@@ -1,10 +1,11 @@
 -- Items written one by one, and eight at a time.
-use Rattle.std.proofs.Common.{◌≡◌, ℕ, zero, suc, ◌+◌, ◌-◌, ◌*◌, ◌^◌, ◌/◌, ◌%◌, ◌<◌, ◌≤◌, ◌⊎◌, List, [], ◌∷◌, map, length, get_or, set, All, ℤ, pos, ◌+ℤ◌, refl, sym, ap, ap₂, ◌∙◌, arith, inl, inr, subst}
+use Rattle.std.proofs.Common.{◌≡◌, ℕ, zero, suc, ◌+◌, ◌-◌, ◌*◌, ◌^◌, ◌/◌, ◌%◌, ◌<◌, ◌≤◌, ◌⊎◌, List, [], ◌∷◌, map, length, get_or, set, take, drop, All, ℤ, pos, ◌+ℤ◌, refl, sym, ap, ap₂, ◌∙◌, arith, inl, inr, subst}
 use Rattle.std.proofs.lemmas.Simd.{get_or-put_chunk_below, get_or-put_chunk_at, get_or-put_chunk_above, length-put_chunk}
-use Rattle.std.proofs.lemmas.List.{get_or-set_same, get_or-set_other, length-set, length-map, get_or-map}
+use Rattle.std.proofs.lemmas.List.{ext_get_or, get_or-take, get_or-drop, take-take, map-id, length-take, length-drop, get_or-set_same, get_or-set_other, length-set, length-map, get_or-map}
 use Rattle.std.proofs.lemmas.Bool.{cases_lt, cases_eq}
 use lib.Lanes.{put_chunk}
 use Rattle.e57_bits.specs.Bits.{number}
+use Rattle.e57_bits.specs.BitLaws.{number-byte}
 use Rattle.e57_lanes.specs.Unpack.{stored, Written, Stops}
 use Rattle.e57_lanes.specs.Eight.{eight_numbers}
 
@@ -121,14 +122,14 @@ Written-eight bytes phase width minimum span at old mid new numbers t w e place 
     after k (inr h) = omega (arith, length-map numbers (λ n. minimum +ℤ pos n), eight)
 
 -- a block more
-pub Written-block : (bytes : List ℕ) (phase width : ℕ) (minimum : ℤ) (span block : ℕ) (old mid new : List ℤ) (numbers : List ℕ)
-    → Written bytes phase width minimum span 0 (8 * block) old mid → numbers ≡ eight_numbers bytes (8 * (block * width) + phase) width → 8 * block + 8 ≤ length old
+pub Written-block : (bytes : List ℕ) (phase width : ℕ) (minimum : ℤ) (span block : ℕ) (old mid new : List ℤ) (numbers : List ℕ) (t : ℕ)
+    → Written bytes phase width minimum span 0 (8 * block) old mid → numbers ≡ eight_numbers bytes t width → t ≡ 8 * (block * width) + phase → 8 * block + 8 ≤ length old
     → All (λ n. n ≤ span) numbers → new ≡ put_chunk (8 * block) mid (map (λ n. minimum +ℤ pos n) numbers)
     → Written bytes phase width minimum span 0 (8 * (block + 1)) old new
-Written-block bytes phase width minimum span block old mid new numbers w e room all made =
+Written-block bytes phase width minimum span block old mid new numbers t w e place room all made =
     let next : 8 * block + 8 ≡ 8 * (block + 1) = omega arith in
     subst (λ n. Written bytes phase width minimum span 0 n old new) next
-    (Written-eight bytes phase width minimum span (8 * block) old mid new numbers (8 * (block * width) + phase) w e (begins block width phase) room all made)
+    (Written-eight bytes phase width minimum span (8 * block) old mid new numbers t w e (place ∙ begins block width phase) room all made)
   where
     begins : (q w p : ℕ) → 8 * (q * w) + p ≡ p + 8 * q * w
     begins q w p = grind arith
@@ -145,3 +146,20 @@ address k w p =
 
     joined : (a b c p : ℕ) → c ≡ 8 * a + b → 8 * (a + (p + b) / 8) + (p + b) % 8 ≡ p + c
     joined a b c p e = omega arith
+
+-- eight numbers, each known by its place
+pub eight_ext : (b : List ℕ) (t w : ℕ) (xs : List ℕ) → length xs ≡ 8 → ((j : ℕ) → j < 8 → get_or xs j 0 ≡ number b (t + j * w) w) → xs ≡ eight_numbers b t w
+eight_ext b t w xs long each =
+    ext_get_or 0 xs (eight_numbers b t w) long (λ j h. let small : j < 8 = omega (arith, long) in each j small ∙ sym (eighth b t w j small))
+
+-- eight bytes, as numbers of eight bits
+pub eight_bytes : (b : List ℕ) (at : ℕ) → ((k : ℕ) → get_or b k 0 < 256) → at + 8 ≤ length b
+    → map (λ n. n) (take 8 (take (at + 8 - at) (drop at b))) ≡ eight_numbers b (8 * at) 8
+eight_bytes b at bytes room =
+    let eight : at + 8 - at ≡ 8 = omega arith in
+    let long : length (take 8 (drop at b)) ≡ 8 = omega (arith, length-take 8 (drop at b), length-drop at b) in
+    map-id (take 8 (take (at + 8 - at) (drop at b)))
+    ∙ ap (λ n. take 8 (take n (drop at b))) eight
+    ∙ take-take 8 8 (drop at b) (omega arith)
+    ∙ eight_ext b (8 * at) 8 (take 8 (drop at b)) long
+      (λ j h. get_or-take 8 (drop at b) j 0 h ∙ get_or-drop at b j 0 ∙ sym (number-byte b (at + j) (bytes (at + j))) ∙ ap (λ t. number b t 8) (omega arith))

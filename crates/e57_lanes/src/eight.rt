@@ -2,6 +2,7 @@
 
 ghost use Rattle.std.specs.Prelude.{◌≡◌, ◌+◌, ◌-◌, ◌*◌, ◌/◌, ◌%◌, ◌^◌, ◌<◌, ◌≤◌, ℕ, List, map, length, pos, ◌+ℤ◌, ◌≤ℤ◌, Bool, true, false, All};
 
+ghost use Rattle.e57_lanes.specs.Eight.{first_bits};
 ghost use Rattle.std.specs.Bool.{MatchBool, OnFalse};
 ghost use Rattle.std.specs.Simd.Lanes.{put_chunk};
 
@@ -31,4 +32,24 @@ fn any_above(numbers: u64x8, span: u64) -> bool
     ensures { OnFalse result (All (λ n. n ≤ span) numbers) }
 {
     numbers.simd_gt(u64x8::splat(span)).to_bitmask() != 0
+}
+
+/// Where eight items begin within their first bytes, the first at bit `phase`.
+#[inline(always)]
+pub(crate) fn eight_shifts(phase: u8, width: u8) -> u64x8
+    requires { phase < 8 × width ≤ 64 }
+    ensures { result ≡ first_bits phase width }
+{
+    let w = width as u64;
+    let p = phase as u64;
+    u64x8::from_array([
+        p % 8,
+        (p + w) % 8,
+        (p + 2 * w) % 8,
+        (p + 3 * w) % 8,
+        (p + 4 * w) % 8,
+        (p + 5 * w) % 8,
+        (p + 6 * w) % 8,
+        (p + 7 * w) % 8,
+    ])
 }

@@ -3,7 +3,17 @@
 #![tactic(auto)]
 
 mod eight;
+mod far;
 mod near;
+mod parts;
 mod plain;
+mod unpacking;
+mod whole;
+mod words;
 
+pub use far::unpack_far;
 pub use near::unpack_near;
+pub use parts::unpack_parts;
+pub use unpacking::unpack;
+pub use whole::unpack_whole;
+pub use words::{unpack32, unpack64};

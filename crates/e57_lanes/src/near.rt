@@ -4,7 +4,7 @@ ghost use Rattle.std.specs.Prelude.{◌≡◌, ◌+◌, ◌*◌, ◌/◌, ◌<�
 ghost use Rattle.e57_lanes.specs.Eight.{eight_numbers};
 ghost use Rattle.e57_lanes.specs.Unpack.{CanUnpack, Written, Unpacks};
 
-use crate::eight::put_eight;
+use crate::eight::{eight_shifts, put_eight};
 use crate::plain::unpack_from;
 use e57_bits::u64_at;
 use std::simd::prelude::*;
@@ -86,15 +86,5 @@ fn eight_near(bytes: &[u8], at: usize, phase: u8, width: u8) -> u64x8
         u64_at(bytes, at + (p + 6 * w) / 8),
         u64_at(bytes, at + (p + 7 * w) / 8),
     ]);
-    let shifts = u64x8::from_array([
-        (p % 8) as u64,
-        ((p + w) % 8) as u64,
-        ((p + 2 * w) % 8) as u64,
-        ((p + 3 * w) % 8) as u64,
-        ((p + 4 * w) % 8) as u64,
-        ((p + 5 * w) % 8) as u64,
-        ((p + 6 * w) % 8) as u64,
-        ((p + 7 * w) % 8) as u64,
-    ]);
-    words >> shifts & u64x8::splat(u64::MAX >> (64 - width))
+    words >> eight_shifts(phase, width) & u64x8::splat(u64::MAX >> (64 - width))
 }

@@ -33,7 +33,7 @@ pub(crate) fn unpack_from(
 
 /// The minimum plus a number within the span.
 #[inline(always)]
-fn sum(min: i64, number: u64, span: u64) -> i64
+pub(crate) fn sum(min: i64, number: u64, span: u64) -> i64
     requires within { number ≤ span }
     requires fits { (min +ℤ pos span) ≤ℤ pos (2 ^ 63 - 1) }
     ensures { result ≡ min +ℤ pos number }

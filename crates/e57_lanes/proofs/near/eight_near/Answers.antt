@@ -8,7 +8,8 @@ returns c =
     let at = c.args.at in
     let p = c.args.phase in
     let w = c.args.width in
-    same_eight
+    rw c.eight_shifts.ensures
+    (same_eight
     (field b at (p % 8) w 64 _ _ c.u64_at.ensures (omega arith) (omega arith) (omega arith))
     (field b (at + (p + w) / 8) ((p + w) % 8) w 64 _ _ c.u64_at-2.ensures (omega arith) (omega arith) (omega arith))
     (field b (at + (p + 2 * w) / 8) ((p + 2 * w) % 8) w 64 _ _ c.u64_at-3.ensures (omega arith) (omega arith) (omega arith))
@@ -16,4 +17,4 @@ returns c =
     (field b (at + (p + 4 * w) / 8) ((p + 4 * w) % 8) w 64 _ _ c.u64_at-5.ensures (omega arith) (omega arith) (omega arith))
     (field b (at + (p + 5 * w) / 8) ((p + 5 * w) % 8) w 64 _ _ c.u64_at-6.ensures (omega arith) (omega arith) (omega arith))
     (field b (at + (p + 6 * w) / 8) ((p + 6 * w) % 8) w 64 _ _ c.u64_at-7.ensures (omega arith) (omega arith) (omega arith))
-    (field b (at + (p + 7 * w) / 8) ((p + 7 * w) % 8) w 64 _ _ c.u64_at-8.ensures (omega arith) (omega arith) (omega arith))
+    (field b (at + (p + 7 * w) / 8) ((p + 7 * w) % 8) w 64 _ _ c.u64_at-8.ensures (omega arith) (omega arith) (omega arith)))
