@@ -105,3 +105,10 @@ pub in_one : (p w j m : ℕ) → p % w ≡ 0 → (w ≡ 1) ⊎ ((w ≡ 2) ⊎ (w
 in_one p w j m e (inl h) g = rw h (omega arith)
 in_one p w j m e (inr (inl h)) g = let even : p % 2 ≡ 0 = rw h at e in let at : m ≡ p + j * 2 = rw h at g in rw h (omega arith)
 in_one p w j m e (inr (inr h)) g = let four : p % 4 ≡ 0 = rw h at e in let at : m ≡ p + j * 4 = rw h at g in rw h (omega arith)
+
+-- the mask of w bits is a number of w bits
+pub mask-lt : (w : ℕ) → w ≤ 64 → 18446744073709551615 / 2 ^ (64 - w) < 2 ^ w
+mask-lt w h =
+    let e : 64 - (64 - w) ≡ w = omega arith in
+    let k : 18446744073709551615 / 2 ^ (64 - w) ≡ 2 ^ w - 1 = ones_shr 64 (64 - w) (omega arith) ∙ ap (λ m. 2 ^ m - 1) e in
+    omega (arith, k, pow_pos w)

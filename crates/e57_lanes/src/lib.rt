@@ -2,9 +2,11 @@
 //! bit-packed codec). No call takes memory.
 #![tactic(auto)]
 
+mod begun;
 mod eight;
 mod far;
 mod near;
+mod packing;
 mod parts;
 mod plain;
 mod unpacking;
@@ -13,7 +15,11 @@ mod words;
 
 pub use far::unpack_far;
 pub use near::unpack_near;
+pub use packing::pack;
 pub use parts::unpack_parts;
 pub use unpacking::unpack;
 pub use whole::unpack_whole;
 pub use words::{unpack32, unpack64};
+
+#[cfg(test)]
+mod tests;
