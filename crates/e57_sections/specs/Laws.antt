@@ -10,3 +10,4 @@ pub mod Pieces
 pub mod Descents
 pub mod Reached
 pub mod Items
+pub mod Refusals
