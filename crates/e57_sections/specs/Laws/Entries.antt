@@ -20,7 +20,7 @@ use Rattle.e57_layout.specs.Laws.Index.{index_spelled-last, index_spelled-more, 
 use Rattle.e57_layout.specs.Laws.Written.{packet_bytes-some, length-packets_bytes-append}
 use Rattle.e57_layout.specs.declared.packet.Entry.{Entry}
 use Rattle.e57_layout.specs.declared.section.Section.{Section}
-use Rattle.e57_sections.specs.Section.{span_fault, logical_size}
+use Rattle.e57_page.specs.File.{span_fault, logical_size}
 use Rattle.e57_sections.specs.Index.{target_fault, each_fault, entry_fault, entries_below}
 use Rattle.e57_sections.specs.Chunks.{data_packets}
 use Rattle.e57_sections.specs.Laws.Spans.{AreRight, span-right}

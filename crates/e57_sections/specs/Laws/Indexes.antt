@@ -16,7 +16,7 @@ use Rattle.e57_layout.specs.Laws.Layouts.{IsEntry, index_packet-read, length-ind
 use Rattle.e57_layout.specs.Laws.Index.{IsEntryRun, entry_runs-are, entry_runs-all, entry_runs-joined, entry_runs-count, length-upper_entries, index_spelled-last, index_spelled-more, root_place-last, root_place-more}
 use Rattle.e57_layout.specs.declared.packet.Entry.{Entry}
 use Rattle.e57_layout.specs.declared.section.Section.{Section}
-use Rattle.e57_sections.specs.Section.{span_fault, logical_size}
+use Rattle.e57_page.specs.File.{span_fault, logical_size}
 use Rattle.e57_sections.specs.Index.{known_place, entries_of, is_misshapen_index, rises, begins_and_rises, index_start_fault, index_shape_fault, index_packet_fault, next_first, each_fault, entry_fault, entries_below, root_level, root_fault, index_fault, entries}
 use Rattle.e57_sections.specs.Laws.Spans.{AreRight, span-right, or-none}
 use Rattle.e57_sections.specs.Laws.Walks.{IsIndexPacket}

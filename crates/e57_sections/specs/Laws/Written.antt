@@ -22,7 +22,8 @@ use Rattle.e57_layout.specs.Laws.Written.{length-packets_bytes-append, length-ch
 use Rattle.e57_layout.specs.declared.packet.Entry.{Entry}
 use Rattle.e57_layout.specs.declared.field.Fixed.{Fixed}
 use Rattle.e57_layout.specs.declared.section.Section.{Section}
-use Rattle.e57_sections.specs.Section.{span_fault, logical_size, section_header_fault, section_fault, section_at}
+use Rattle.e57_page.specs.File.{span_fault, logical_size}
+use Rattle.e57_sections.specs.Section.{section_header_fault, section_fault, section_at}
 use Rattle.e57_sections.specs.Walk.{walk_from}
 use Rattle.e57_sections.specs.Index.{index_fault, entries, next_first}
 use Rattle.e57_sections.specs.Chunks.{data_packets, by_chunk, packets_by_chunk, first_records, chunks, chunks_fault}
@@ -181,7 +182,6 @@ written_section node q n count leaves columns = record {
 }
 
 written-within : (file : List ℕ) (q n count : ℕ) (leaves : List Leaf) (columns : List (List Value)) → IsWritten file q n count leaves columns → q + (32 + length (packets_bytes (packets_spelled (q + 32) (kinds_of leaves) n count columns))) ≤ logical_size file
-unfolding logical_size
 written-within file q n count leaves columns is =
     let size = length-section_spelled q (kinds_of leaves) n count columns in
     let inside = Stands-within (logical file) q (section_spelled q (kinds_of leaves) n count columns) is.stands (omega arith) in
