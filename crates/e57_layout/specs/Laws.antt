@@ -1,4 +1,5 @@
 -- What holds of the layouts, of items, and of how records are cut.
+pub mod Lists
 pub mod Numbers
 pub mod Standing
 pub mod Layouts
@@ -10,3 +11,6 @@ pub mod Chunks
 pub mod Steps
 pub mod Index
 pub mod Written
+pub mod Found
+pub mod Strings
+pub mod Faults

@@ -13,7 +13,8 @@ use Rattle.e57_layout.specs.Items.{item_at, AreItems, AreColumns, stored, octets
 use Rattle.e57_layout.specs.Packing.{first_records, later_records, Block, cut_blocks, blocks, group_length, group_streams, stream_over, chunk_groups, chunk_packets}
 use Rattle.e57_layout.specs.Laws.Numbers.{low_bytes-zero, packed_is, packed-append}
 use Rattle.e57_layout.specs.Laws.Items.{IsKind, stored-below, words-below, field_bytes-item}
-use Rattle.e57_layout.specs.Laws.Blocks.{all-take, first_block, columns-at, first_records-column, later_records-column, later_records-columns, blocks-step}
+use Rattle.e57_layout.specs.Laws.Lists.{all-take}
+use Rattle.e57_layout.specs.Laws.Blocks.{first_block, columns-at, first_records-column, later_records-column, later_records-columns, blocks-step}
 use Rattle.e57_layout.specs.Laws.Packing.{HasStreams, IsPacket, packets_of-stream, packets_of-packets, packets_of-some}
 
 -- ---- a field's bytes

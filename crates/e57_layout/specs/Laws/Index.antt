@@ -8,7 +8,7 @@ use Rattle.e57_layout.specs.declared.packet.Entry.{Entry}
 use Rattle.e57_layout.specs.IndexPackets.{index_size}
 use Rattle.e57_layout.specs.Written.{physical, packet_bytes, first_record, cut_runs, entry_runs, level_spelled, level_size, upper_entries, index_spelled, root_place}
 use Rattle.e57_layout.specs.Laws.Layouts.{length-index_packet}
-use Rattle.e57_layout.specs.Laws.Blocks.{all-take, all-drop}
+use Rattle.e57_layout.specs.Laws.Lists.{all-take, all-drop}
 
 -- ---- runs of entries
 

@@ -7,6 +7,7 @@ use Rattle.std.proofs.lemmas.List.{take-append-drop}
 use Rattle.std.proofs.lemmas.List.Concat.{flat_map-append}
 use Rattle.e57_layout.specs.Packets.{total, data_size}
 use Rattle.e57_layout.specs.Packing.{join_streams, stream_over, fits_packet, room_for, front, behind, pour, poured, flushed, packets_of}
+use Rattle.e57_layout.specs.Laws.Lists.{all-append}
 use Rattle.e57_layout.specs.Laws.Layouts.{total-cons, data_size_is}
 
 -- n streams that are within one packet
@@ -17,11 +18,6 @@ pub record IsPacket (n : ℕ) (streams : List (List ℕ)) : Type 0 where
 -- a stream for each of n fields
 abbrev pub HasStreams : ℕ → List (List ℕ) → Type 0
 HasStreams n streams = length streams ≡ n
-
--- what holds of each part of two lists holds of each of both
-pub all-append : {X : Type 0} (P : X → Type 0) → (xs ys : List X) → AllByRecursion P xs → AllByRecursion P ys → AllByRecursion P (xs ++ ys)
-all-append P [] ys h g = g
-all-append P (x ∷ xs) ys h g = (h.0, all-append P xs ys h.1 g)
 
 -- ---- streams after streams
 

@@ -4,7 +4,8 @@ use Rattle.std.specs.List.{AllByRecursion}
 use Rattle.std.proofs.lemmas.Bool.{cond_both}
 use Rattle.e57_layout.specs.Packing.{join_streams, fits_packet, poured, flushed, packets_of}
 use Rattle.e57_layout.specs.Steps.{Step, step, steps}
-use Rattle.e57_layout.specs.Laws.Packing.{IsPacket, HasStreams, IsRun, fits-run, length-join_streams, poured-packets, packets_of-nil, all-append}
+use Rattle.e57_layout.specs.Laws.Lists.{all-append}
+use Rattle.e57_layout.specs.Laws.Packing.{IsPacket, HasStreams, IsRun, fits-run, length-join_streams, poured-packets, packets_of-nil}
 
 -- the packets of groups after a step
 abbrev after : List (List (List ℕ)) → Step → List (List (List ℕ))
