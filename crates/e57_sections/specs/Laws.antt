@@ -11,3 +11,4 @@ pub mod Descents
 pub mod Reached
 pub mod Items
 pub mod Refusals
+pub mod Sections

@@ -1,10 +1,10 @@
 -- The section of a cloud (ASTM E2807, compressed vector section): where it lies, and the first fault of its header.
 -- A place is a logical offset and an offset a physical one.
-use Rattle.std.specs.Prelude.{ℕ, ◌+◌, ◌-◌, ◌*◌, ◌/◌, ◌==◌, ◌||◌, not, nat_lt, Bool, if◌then◌else◌, List, length, Option, Some, None}
+use Rattle.std.specs.Prelude.{ℕ, ◌+◌, ◌==◌, ◌||◌, not, nat_lt, Bool, if◌then◌else◌, List, Option, Some, None}
 use Rattle.std.specs.Option.{option_or}
 use Rattle.e57_base.specs.declared.fault.Fault.{Fault}
 use Rattle.e57_base.specs.declared.kind.Kind.TheVariants.{SectionPlace, SectionId, DataPlace}
-use Rattle.e57_page.specs.Place.{place, span_end}
+use Rattle.e57_page.specs.Place.{place}
 use Rattle.e57_base.specs.Fault.{fault}
 use Rattle.e57_page.specs.File.{logical, logical_size, span_fault}
 use Rattle.e57_layout.specs.Headers.{section_head_at}

@@ -34,9 +34,9 @@ place-physical q = rw (lt-ltb ((q / 1020 * 1024 + q % 1020) % 1024) 1020 (low q)
     whole : (q : ℕ) → (q / 1020 * 1024 + q % 1020) / 1024 * 1020 + (q / 1020 * 1024 + q % 1020) % 1024 ≡ q
     whole q = omega arith
 
-pub physical-lt : (q : ℕ) → q ≤ 2 ^ 60 → physical q < 2 ^ 64
+pub physical-small : (q : ℕ) → q ≤ 2 ^ 60 → physical q < 2 ^ 64
 unfolding physical
-physical-lt q small = omega arith
+physical-small q small = omega arith
 
 -- ---- records that rise
 
@@ -247,7 +247,7 @@ upper-room level q least bound [] small near up = tt
 upper-room level q least bound (run ∷ runs) small near up =
     let size : length (index_packet level run) ≡ index_size (length run) = length-index_packet level run in
     let sizes : length (index_packet level run ++ packets_bytes (level_spelled level runs)) ≡ length (index_packet level run) + length (packets_bytes (level_spelled level runs)) = length-append (index_packet level run) (packets_bytes (level_spelled level runs)) in
-    (record { first = omega (arith, up.1); place = physical-lt q (omega arith) }, upper-room level (q + index_size (length run)) (first_record run + 1) bound runs small (omega arith) up.2)
+    (record { first = omega (arith, up.1); place = physical-small q (omega arith) }, upper-room level (q + index_size (length run)) (first_record run + 1) bound runs small (omega arith) up.2)
 
 -- ---- the whole index
 
