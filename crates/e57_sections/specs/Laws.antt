@@ -10,3 +10,5 @@ pub mod Pieces
 pub mod Descents
 pub mod Reached
 pub mod Items
+pub mod Refusals
+pub mod Sections

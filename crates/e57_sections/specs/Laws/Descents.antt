@@ -5,12 +5,13 @@ use Rattle.std.proofs.Common.{refl, sym, ap, subst, ◌∙◌, arith, ⊎_elim, 
 use Rattle.std.proofs.lemmas.Bool.{lt-ltb, le-ltb, eqb-true, and_parts, false≢true}
 use Rattle.e57_base.specs.declared.fault.Fault.{Fault}
 use Rattle.e57_base.specs.declared.kind.Kind.TheVariants.{IndexOrder}
-use Rattle.e57_page.specs.Header.{fault}
+use Rattle.e57_base.specs.Fault.{fault}
 use Rattle.e57_layout.specs.IndexPackets.{entry_count_at}
 use Rattle.e57_page.specs.File.{logical}
 use Rattle.e57_layout.specs.declared.packet.Entry.{Entry}
 use Rattle.e57_layout.specs.declared.section.Section.{Section}
-use Rattle.e57_sections.specs.Section.{when, span_fault}
+use Rattle.e57_page.specs.File.{span_fault}
+use Rattle.e57_sections.specs.Section.{when}
 use Rattle.e57_sections.specs.Index.{known_place, entries_of, rises, begins_and_rises, index_shape_fault, index_packet_fault, next_first, each_fault, entry_fault, entries_below, root_entry, root_level, root_fault, index_fault, entries}
 use Rattle.e57_sections.specs.PathItem.{ChunkAt, pick, by_entry, descend, path}
 use Rattle.e57_sections.specs.Laws.Spans.{or-none}
