@@ -3,6 +3,9 @@
 ghost use Rattle.std.specs.Prelude.{◌≡◌, ◌≤◌, ◌++◌, nat_le, if◌then◌else◌, ℕ, List, length, take, drop};
 ghost use Rattle.e57_layout.specs.Strings.{string_prefix, string_limit, first_prefix, prefix_found};
 
+/// The most bytes of a string whose prefix is one byte.
+const ONE_BYTE: u64 = 127;
+
 /// Spells the prefix of a string of `len` bytes, at most 2^24, at the start of `out`, and answers how many bytes it has:
 /// one up to 127, else eight. The other bytes are as they were.
 pub fn spell_prefix(len: u64, out: &mut [u8; 8]) -> usize
@@ -12,7 +15,7 @@ pub fn spell_prefix(len: u64, out: &mut [u8; 8]) -> usize
     ensures others { drop result out.new ≡ drop result out.old }
     ensures read_back { (rest : List ℕ) → first_prefix (take result out.new ++ rest) ≡ prefix_found len rest }
 {
-    if len <= 127 {
+    if len <= ONE_BYTE {
         out[0] = (2 * len) as u8;
         return 1;
     }

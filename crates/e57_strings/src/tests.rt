@@ -4,19 +4,17 @@ use crate::{Fed, StringCursor, spell_prefix};
 fn first_string(stream: &[u8], step: usize, out: &mut [u8; 8]) -> Option<(u64, usize)> {
     let mut cursor = StringCursor::new();
     let mut at = 0;
-    let mut length = 0;
     for _ in 0..40 {
-        if length > 8 {
-            return None;
-        }
         let end = if stream.len() - at < step { stream.len() } else { at + step };
         match cursor.feed(&stream[at..end], out) {
             Fed::More { taken } => at += taken,
-            Fed::Length { taken, length: stated } => {
+            Fed::Length { taken, length } => {
+                if length > 8 {
+                    return None;
+                }
                 at += taken;
-                length = stated;
             }
-            Fed::Whole { taken, length: whole } => return Some((whole, at + taken)),
+            Fed::Whole { taken, length } => return Some((length, at + taken)),
         }
     }
     None

@@ -28,14 +28,14 @@ long bytes n e h =
 read_back : (xs : List ℕ) (n : ℕ) → xs ≡ string_prefix n → n ≤ string_limit → (rest : List ℕ) → first_prefix (xs ++ rest) ≡ prefix_found n rest
 read_back xs n e h rest = ap (λ ys. first_prefix (ys ++ rest)) e ∙ first_prefix-written n rest h
 
-pub returns-then-len-le127-clause-spelled : goal.returns-then-len-le127-clause-spelled
-returns-then-len-le127-clause-spelled c = short c.args.out.now c.args.len c.told-out c.if-len-le127.true
+pub returns-then-len-le-ONE_BYTE-clause-spelled : goal.returns-then-len-le-ONE_BYTE-clause-spelled
+returns-then-len-le-ONE_BYTE-clause-spelled c = short c.args.out.now c.args.len c.told-out c.if-len-le-ONE_BYTE.true
 
-pub returns-then-len-le127-clause-read_back : goal.returns-then-len-le127-clause-read_back
-returns-then-len-le127-clause-read_back c = read_back _ c.args.len (short c.args.out.now c.args.len c.told-out c.if-len-le127.true) c.requires
+pub returns-then-len-le-ONE_BYTE-clause-read_back : goal.returns-then-len-le-ONE_BYTE-clause-read_back
+returns-then-len-le-ONE_BYTE-clause-read_back c = read_back _ c.args.len (short c.args.out.now c.args.len c.told-out c.if-len-le-ONE_BYTE.true) c.requires
 
 pub returns-clause-spelled : goal.returns-clause-spelled
-returns-clause-spelled c = long c.to_le_bytes.result c.args.len c.to_le_bytes.ensures c.if-len-le127.false
+returns-clause-spelled c = long c.to_le_bytes.result c.args.len c.to_le_bytes.ensures c.if-len-le-ONE_BYTE.false
 
 pub returns-clause-read_back : goal.returns-clause-read_back
-returns-clause-read_back c = read_back _ c.args.len (long c.to_le_bytes.result c.args.len c.to_le_bytes.ensures c.if-len-le127.false) c.requires
+returns-clause-read_back c = read_back _ c.args.len (long c.to_le_bytes.result c.args.len c.to_le_bytes.ensures c.if-len-le-ONE_BYTE.false) c.requires
