@@ -4,6 +4,7 @@
 
 mod fetch;
 mod header;
+mod kept;
 mod pages;
 mod piece;
 mod place;
