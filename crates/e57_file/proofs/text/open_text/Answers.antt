@@ -1,31 +1,23 @@
-use Rattle.std.proofs.Common.{◌≡◌, ◌∙◌, length, drop}
-use Rattle.std.proofs.lemmas.List.{take_at}
-use Rattle.e57_file.proofs.Sections.{refused_by_place, refused_by_page, refused_by_text}
+use Rattle.std.proofs.Common.{rules, ◌≡◌, MatchResult, ℕ, ◌+◌, ◌-◌, ◌*◌, ◌<◌, ◌≤◌, length, ◌/◌, ◌%◌, Bool, true, false, nat_eq, nat_lt, List, [], ◌∷◌, ◌++◌, slice_index_or, slice_set, bit_and, bit_or, Fits, w8, w32, w64, Bor, MutBor}
+use Rattle.e57_file.specs.Text.{AsksForXml, JudgesPlace, IsTextRead, IsTextCause}
 use Rattle.e57_file.proofs.text.open_text.Goals as goal
 
-pub returns-in-Err-clause-text : goal.returns-in-Err-clause-text
-returns-in-Err-clause-text g c =
-    let now = c.args.pages.now in
-    let counted = rw (c.logical_len-count.ensures.count, c.header.ensures) at c.in-Err.ensures in
-    refused_by_place now.header now.kept now.length (g.S.Source.view now.source) c.in-Err.found (g.met.S.Source.holds_size now.source) c.logical_len-count.ensures.open_size counted
+-- src/text.rt:31:17
+pub returns-in_err-start-clause-text : goal.returns-in_err-start-clause-text
+returns-in_err-start-clause-text g c = c.in_err-start.ensures.cases
 
-pub returns-in-Err-read-clause-text : goal.returns-in-Err-read-clause-text
-returns-in-Err-read-clause-text g c =
-    let now = c.args.pages.now in
-    let placed = rw c.logical_len-count.ensures.count at c.in-Ok.ensures in
-    let stopped = c.in-Err-read.ensures.range in
-    let long : length c.deref_mut.result.now ≡ c.header.result.now.xml_length = c.deref_mut.ensures.len ∙ c.in-Ok-vec.ensures.len in
-    rw (c.read_fault.ensures, ← c.header.ensures)
-    (refused_by_page c.header.result.now now.kept now.length c.in-Ok.start stopped.0 (g.S.Source.view now.source) (g.S.Source.view c.read.new.self.source) c.deref_mut.result.now c.read.new.out c.in-Err-read.cut (g.met.S.Source.holds_size now.source) c.logical_len-count.ensures.open_size placed long stopped.1)
+-- src/text.rt:33:5
+pub returns-in_err-map_err-clause-asked : goal.returns-in_err-map_err-clause-asked
+returns-in_err-map_err-clause-asked g c = c.in_err-map_err.ensures.cases
 
+-- src/text.rt:33:5
+pub returns-in_err-map_err-clause-text : goal.returns-in_err-map_err-clause-text
+returns-in_err-map_err-clause-text g c = c.from_residual-in_err-map_err.ensures.1
+
+-- src/text.rt:34:16
+pub returns-in_err-tree-clause-text : goal.returns-in_err-tree-clause-text
+returns-in_err-tree-clause-text g c = c.from_residual-in_err-tree.ensures.1
+
+-- src/text.rt:20:1
 pub returns-clause-text : goal.returns-clause-text
-returns-clause-text g c =
-    let now = c.args.pages.now in
-    let placed = rw c.logical_len-count.ensures.count at c.in-Ok.ensures in
-    let failed = c.in-Err-read_elements.ensures.fault in
-    let range = c.in_default-read.ensures.range in
-    let long : length c.deref_mut.result.now ≡ c.header.result.now.xml_length = c.deref_mut.ensures.len ∙ c.in-Ok-vec.ensures.len in
-    let same : c.deref.result.now ≡ c.read.new.out =
-    c.deref.ensures.value ∙ take_at c.read.new.out (drop (length c.read.new.out) c.in-Ok-vec.text.items) c.in-Ok-vec.text.len (c.read.auto.out ∙ c.deref_mut.ensures.len) in
-    rw (c.text_fault.ensures, ← c.header.ensures)
-    (refused_by_text c.header.result.now now.kept now.length c.in-Ok.start (length c.deref_mut.result.now) (g.S.Source.view now.source) (g.S.Source.view c.read.new.self.source) c.read.new.out c.in-Err-read_elements.fault (g.met.S.Source.holds_size now.source) c.logical_len-count.ensures.open_size placed long range (rw same at failed))
+returns-clause-text g c = c.in_ok-map_err.ensures.cases
