@@ -94,8 +94,8 @@ keeps_kept kept n high held =
     }
 
 -- page n was read
-pub keeps_read : (kept : List ℕ) (n high : ℕ) → length kept ≡ 72 → n < high → KeepsTo kept n (n + 1) high (if is_later kept n high then kept else slice_set kept (n % 72) n)
-keeps_read kept n high long inside = by_cases (is_later kept n high) refl where
+pub keeps_read : (kept now : List ℕ) (n high : ℕ) → length kept ≡ 72 → n < high → now ≡ (if is_later kept n high then kept else slice_set kept (n % 72) n) → KeepsTo kept n (n + 1) high now
+keeps_read kept now n high long inside is = subst (λ (numbers : List ℕ). KeepsTo kept n (n + 1) high numbers) (sym is) (by_cases (is_later kept n high) refl) where
   by_cases : (b : Bool) → is_later kept n high ≡ b → KeepsTo kept n (n + 1) high (if b then kept else slice_set kept (n % 72) n)
   by_cases true is = keeps_left kept n high is
   by_cases false is = keeps_set kept n high long is inside
@@ -114,6 +114,10 @@ page_later old new n page same is =
       right = is.right;
       bytes = subst (λ (held : Option (List ℕ)). IfSome held (λ file. page ≡ page_of file n)) (sym same.held) is.bytes;
     }
+
+-- the bytes of a page that is kept
+pub page_held : (source : SourceView) (numbers : List ℕ) (pages : List (List ℕ)) (n : ℕ) (page : List ℕ) → AreKept source numbers pages → is_kept numbers n ≡ true → page ≡ page_in pages n → IsPage source n page
+page_held source numbers pages n page are held is = subst (λ (bytes : List ℕ). IsPage source n bytes) (sym is) (are n held)
 
 pub sound_later : (old new : SourceView) (size : ℕ) (header : Header) (numbers : List ℕ) (pages : List (List ℕ)) → SameFile old new → IsSound old size header numbers pages → IsSound new size header numbers pages
 sound_later old new size header numbers pages same sound =

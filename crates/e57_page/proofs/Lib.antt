@@ -1,3 +1,4 @@
 pub mod Fetching
 pub mod Pieces
 pub mod Keeping
+pub mod OpeningFile

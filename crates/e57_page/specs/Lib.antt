@@ -9,3 +9,4 @@ pub mod XmlSection
 pub mod Pages
 pub mod Fetch
 pub mod PagesLaws
+pub mod Opening

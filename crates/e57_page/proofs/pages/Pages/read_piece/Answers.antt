@@ -1,8 +1,6 @@
-use Rattle.std.proofs.Common.{◌≡◌, ◌+◌, ◌<◌, ◌/◌, ℕ, List, ap, sym, subst}
+use Rattle.std.proofs.Common.{◌≡◌, ◌<◌, ◌/◌, ap}
 use Rattle.e57_page.specs.Pages.{Reading}
-use Rattle.e57_page.specs.Kept.{KeepsTo}
-use Rattle.e57_page.specs.Fetch.{IsPage}
-use Rattle.e57_page.proofs.Keeping.{keeps_kept, keeps_read, kept_asks, unkept_asks, sound_read}
+use Rattle.e57_page.proofs.Keeping.{keeps_kept, keeps_read, page_held, kept_asks, unkept_asks, sound_read}
 use Rattle.e57_page.proofs.Pieces.{reads_piece}
 use Rattle.e57_page.proofs.pages.Pages.read_piece.Goals as goal
 
@@ -13,7 +11,7 @@ returns-in-Some-clause-piece g c =
     let held = c.in-Some.ensures.page in
     let size : inside.length ≡ c.args.self.now.length = ap (λ (reading : Reading _). reading.length) c.self.view_is in
     let below : c.args.n < inside.length / 1024 = rw size c.requires.page in
-    let page : IsPage view c.args.n c.in-Some.page.now = subst (λ (bytes : List ℕ). IsPage view c.args.n bytes) (sym held.1) (c.self.invariant.kept c.args.n held.0) in
+    let page = page_held view inside.kept.numbers inside.kept.pages c.args.n c.in-Some.page.now c.self.invariant.kept held.0 held.1 in
     rw (← c.self.view_is) (
       keeps_kept inside.kept.numbers c.args.n c.args.high held.0,
       reads_piece view view inside.kept.numbers c.args.at c.args.n inside.length c.in-Some.page.now c.args.out.now c.copy_piece.new.out (g.met.S.Source.holds_size inside.source) c.self.invariant.open_size below c.requires.reaches c.requires.begins page.long (kept_asks view inside.kept.numbers c.args.n held.0) page c.copy_piece.ensures,
@@ -34,7 +32,7 @@ returns-clause-piece g c =
     let places = c.in_default.ensures.places in
     let size : inside.length ≡ c.args.self.now.length = ap (λ (reading : Reading _). reading.length) c.self.view_is in
     let below : c.args.n < inside.length / 1024 = rw size c.requires.page in
-    let keeps = subst (λ (now : List ℕ). KeepsTo inside.kept.numbers c.args.n (c.args.n + 1) c.args.high now) (sym c.keep.ensures.numbers) (keeps_read inside.kept.numbers c.args.n c.args.high places.0 c.requires.below) in
+    let keeps = keeps_read inside.kept.numbers c.keep.new.kept.numbers c.args.n c.args.high places.0 c.requires.below c.keep.ensures.numbers in
     rw (← c.self.view_is) (
       keeps,
       reads_piece (g.S.Source.view inside.source) (g.S.Source.view c.fetch.new.source) inside.kept.numbers c.args.at c.args.n inside.length c.fetch.new.page c.args.out.now c.copy_piece-2.new.out (g.met.S.Source.holds_size inside.source) c.self.invariant.open_size below c.requires.reaches c.requires.begins fetched.right_page.long (unkept_asks (g.S.Source.view inside.source) (g.S.Source.view c.fetch.new.source) inside.kept.numbers c.args.n free fetched.source) fetched.right_page c.copy_piece-2.ensures,
