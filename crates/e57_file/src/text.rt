@@ -28,9 +28,14 @@ pub fn open_text<S: Source>(alloc: Global, pages: &mut Pages<S>) -> Result<RawTr
 {
     let count = pages.logical_len();
     let header = *pages.header();
-    let start = section_place(&header, count).map_err(OpenFault::Refused)?;
+    let start = match section_place(&header, count) {
+        Ok(start) => start,
+        Err(found) => return Err(OpenFault::Refused(found)),
+    };
     let mut text = vec![in alloc; 0; header.xml_length as usize]?;
-    pages.read(start, &mut text).map_err(|cut| cut.fault)?;
+    if let Err(cut) = pages.read(start, &mut text) {
+        return Err(OpenFault::from(cut.fault));
+    }
     let tree = read_elements(alloc, &text)?;
     Ok(tree)
 }
