@@ -59,6 +59,27 @@ fn a_file_of_the_disk_is_read_by_pages(rt: HostRuntime) -> Result<(), Fail> {
 }
 
 #[test]
+fn the_rest_of_a_file_of_the_disk_is_read(rt: HostRuntime) -> Result<(), Fail> {
+    let mut bytes = vec![in rt.alloc(); 7; 1024]?;
+    bytes.resize(1500, 8)?;
+    fs::write(&rt, "rows", bytes.as_slice())?;
+    let mut source = DiskSource::new(rt.alloc(), &rt);
+    let size = source.open("rows").ok().ok_or("the file is there")?;
+    assert_eq!(rt; size, 1500);
+    let mut page = [9; 1024];
+    assert!(rt; source.read_rest(&mut page).is_ok());
+    let mut expected = vec![in rt.alloc(); 8; 476]?;
+    expected.resize(1024, 0)?;
+    assert_eq!(rt; page.as_slice(), expected.as_slice());
+    assert!(rt; source.read_page(0, &mut page).is_ok());
+    assert_eq!(rt; page.as_slice(), [7; 1024].as_slice());
+    // The file is cut short.
+    fs::write(&rt, "rows", [7; 1400].as_slice())?;
+    assert!(rt; source.read_rest(&mut page).is_err());
+    Ok(())
+}
+
+#[test]
 fn a_file_of_the_disk_is_written_by_pages(rt: HostRuntime) -> Result<(), Fail> {
     let mut target = DiskTarget::new(&rt);
     assert!(rt; target.create("no/such/folder").is_err());
