@@ -8,7 +8,7 @@ use Rattle.e57_base.specs.Source.{SourceView, SameFile, page_of}
 use Rattle.e57_page.specs.declared.header.Header.{Header}
 use Rattle.e57_page.specs.Header.{header_of}
 use Rattle.e57_page.specs.File.{opening_fault}
-use Rattle.e57_page.specs.Kept.{is_kept, is_later, page_in, KeepsFirst, KeepsTo}
+use Rattle.e57_page.specs.Kept.{is_kept, is_later, numbers_with, pages_with, page_in, KeepsFirst, KeepsTo}
 use Rattle.e57_page.specs.Pages.{AsksFor, IsOpened}
 use Rattle.e57_page.specs.PagesLaws.{asks_for_none}
 use Rattle.e57_page.specs.Fetch.{IsPage, AreKept, IsSound, unless_kept}
@@ -94,7 +94,7 @@ keeps_kept kept n high held =
     }
 
 -- page n was read
-pub keeps_read : (kept now : List ℕ) (n high : ℕ) → length kept ≡ 72 → n < high → now ≡ (if is_later kept n high then kept else slice_set kept (n % 72) n) → KeepsTo kept n (n + 1) high now
+pub keeps_read : (kept now : List ℕ) (n high : ℕ) → length kept ≡ 72 → n < high → now ≡ numbers_with kept n high → KeepsTo kept n (n + 1) high now
 keeps_read kept now n high long inside is = subst (λ (numbers : List ℕ). KeepsTo kept n (n + 1) high numbers) (sym is) (by_cases (is_later kept n high) refl) where
   by_cases : (b : Bool) → is_later kept n high ≡ b → KeepsTo kept n (n + 1) high (if b then kept else slice_set kept (n % 72) n)
   by_cases true is = keeps_left kept n high is
@@ -144,7 +144,7 @@ kept_set source numbers pages n page long longs are is k held =
     subst (λ (bytes : List ℕ). IsPage source k bytes) (sym page_is) (are k (sym (kept_other numbers n k other) ∙ held)))
     (cases_place k n)
 
-pub sound_more : (old new : SourceView) (size n high : ℕ) (header : Header) (numbers : List ℕ) (pages : List (List ℕ)) (page : List ℕ) → length numbers ≡ 72 → length pages ≡ 72 → SameFile old new → IsSound old size header numbers pages → IsPage new n page → IsSound new size header (if is_later numbers n high then numbers else slice_set numbers (n % 72) n) (if is_later numbers n high then pages else slice_set pages (n % 72) page)
+pub sound_more : (old new : SourceView) (size n high : ℕ) (header : Header) (numbers : List ℕ) (pages : List (List ℕ)) (page : List ℕ) → length numbers ≡ 72 → length pages ≡ 72 → SameFile old new → IsSound old size header numbers pages → IsPage new n page → IsSound new size header (numbers_with numbers n high) (pages_with numbers pages n high page)
 sound_more old new size n high header numbers pages page long longs same sound is = by_cases (is_later numbers n high) where
   sound_new : IsSound new size header numbers pages
   sound_new = sound_later old new size header numbers pages same sound
@@ -182,10 +182,10 @@ sound_first old source size told header numbers pages page open_size opened are 
     }
 
 -- page n was read, and is kept unless a later page of the range has its place
-pub sound_read : (old new : SourceView) (size n high : ℕ) (header : Header) (numbers numbers' : List ℕ) (pages pages' : List (List ℕ)) (page : List ℕ) → length numbers ≡ 72 → length pages ≡ 72 → SameFile old new → IsSound old size header numbers pages → IsPage new n page → numbers' ≡ (if is_later numbers n high then numbers else slice_set numbers (n % 72) n) → pages' ≡ (if is_later numbers n high then pages else slice_set pages (n % 72) page) → IsSound new size header numbers' pages'
+pub sound_read : (old new : SourceView) (size n high : ℕ) (header : Header) (numbers numbers' : List ℕ) (pages pages' : List (List ℕ)) (page : List ℕ) → length numbers ≡ 72 → length pages ≡ 72 → SameFile old new → IsSound old size header numbers pages → IsPage new n page → numbers' ≡ numbers_with numbers n high → pages' ≡ pages_with numbers pages n high page → IsSound new size header numbers' pages'
 sound_read old new size n high header numbers numbers' pages pages' page long longs same sound is are stand =
     subst (λ (ns : List ℕ). IsSound new size header ns pages') (sym are)
-    (subst (λ (ps : List (List ℕ)). IsSound new size header (if is_later numbers n high then numbers else slice_set numbers (n % 72) n) ps) (sym stand)
+    (subst (λ (ps : List (List ℕ)). IsSound new size header (numbers_with numbers n high) ps) (sym stand)
     (sound_more old new size n high header numbers pages page long longs same sound is))
 
 -- a page that is kept isn't asked for, and another one is

@@ -6,9 +6,9 @@ use Rattle.std.proofs.lemmas.Bool.Decides.{nat_tests}
 use Rattle.std.proofs.lemmas.Slice.{drop-put_mid}
 use Rattle.e57_base.specs.Source.{SourceView, HoldsSize, page_of}
 use Rattle.e57_base.specs.declared.fault.ReadFault.{ReadFault}
-use Rattle.e57_page.specs.Place.{RisesWithin, span_end}
+use Rattle.e57_page.specs.Place.{span_end}
 use Rattle.e57_page.specs.PlaceLaws.{rises_on}
-use Rattle.e57_page.specs.Kept.{is_kept, AreUnkept, KeepsTo}
+use Rattle.e57_page.specs.Kept.{is_kept, KeepsTo}
 use Rattle.e57_page.specs.KeptLaws.{keeps_none, keeps_on, unkept_on}
 use Rattle.e57_page.specs.File.{logical, page_fault, pages_fault}
 use Rattle.e57_page.specs.FileLaws.{pages_fault-zero, pages_fault-more, logical-piece}
@@ -106,12 +106,13 @@ told_has None known size n law is below = tt
 told_has (Some file) known size n law is below = let same : length file ≡ size = cc in rw same below
 
 -- A piece of page n was copied.
-pub reads_piece : (old new : SourceView) (kept : List ℕ) (at n size : ℕ) (page before after : List ℕ) → HoldsSize old → old.size ≡ Some size → n < size / 1024 → at < 1020 * (n + 1) → 1020 * n < at + length before → length page ≡ 1024 → AsksFor old (unless_kept kept n) new → IsPage new n page → after ≡ with_part (before_page at n) (page_piece at n (length before) page) before → ReadsPiece old kept at n before after new
-reads_piece old new kept at n size page before after law is below reaches begins long asked is_page copied =
+pub reads_piece : (old new : SourceView) (kept now : List ℕ) (at n high size : ℕ) (page before after : List ℕ) → KeepsTo kept n (n + 1) high now → HoldsSize old → old.size ≡ Some size → n < size / 1024 → at < 1020 * (n + 1) → 1020 * n < at + length before → length page ≡ 1024 → AsksFor old (unless_kept kept n) new → IsPage new n page → after ≡ with_part (before_page at n) (page_piece at n (length before) page) before → ReadsPiece old kept at n high before after new now
+reads_piece old new kept now at n high size page before after keeps law is below reaches begins long asked is_page copied =
     let same : new.held ≡ old.held = asked.same.held in
     let bytes : IfSome old.held (λ file. page ≡ page_of file n) = told_later new.held old.held n page (sym same) is_page.bytes in
     record {
       source = asked;
+      keeps = keeps;
       right = told_right old.held n page bytes is_page.right;
       front = copied-front at n page before after long reaches begins copied;
       piece = copied-piece at n page before after long reaches begins copied old.held (told_has old.held old.size size n law is below) bytes;
@@ -170,8 +171,8 @@ asks_more kept now low n high old mid new begun below (pages, rises, unkept, ask
         asks_for_on pages (n ∷ []) asks this,
       )
 
-pub has_read_more : (old mid new : SourceView) (kept now next : List ℕ) (at n high : ℕ) (before between after : List ℕ) → at / 1020 ≤ n → n < high → length between ≡ length before → HasRead old kept at n high before between mid now → KeepsTo now n (n + 1) high next → ReadsPiece mid now at n between after new → HasRead old kept at (n + 1) high before after new next
-has_read_more old mid new kept now next at n high before between after begun below long read keeps piece =
+pub has_read_more : (old mid new : SourceView) (kept now next : List ℕ) (at n high : ℕ) (before between after : List ℕ) → at / 1020 ≤ n → n < high → length between ≡ length before → HasRead old kept at n high before between mid now → ReadsPiece mid now at n high between after new next → HasRead old kept at (n + 1) high before after new next
+has_read_more old mid new kept now next at n high before between after begun below long read piece =
     let same : mid.held ≡ old.held = read.source.3.same.held in
     let right : IfSome old.held (λ file. page_fault file n ≡ None) = subst (λ (held : Option (List ℕ)). IfSome held (λ file. page_fault file n ≡ None)) same piece.right in
     let bytes : IfSome old.held (λ file. SameBetween (before_page at n) (before_page at (n + 1)) after (take (length before) (drop at (logical file)))) =
@@ -180,7 +181,7 @@ has_read_more old mid new kept now next at n high before between after begun bel
     in
     record {
       source = asks_more kept now (at / 1020) n high old mid new begun below read.source read.keeps piece.source;
-      keeps = keeps_on kept now next (at / 1020) n (n + 1) high begun (omega arith) read.keeps keeps;
+      keeps = keeps_on kept now next (at / 1020) n (n + 1) high begun (omega arith) read.keeps piece.keeps;
       right = told_right_more old.held (at / 1020) n begun read.right right;
       bytes = told_bytes_more old.held at n (length before) between after piece.front read.bytes bytes;
       rest = piece.rest ∙ drop_on (before_page at n) (before_page at (n + 1)) between before (omega arith) read.rest;

@@ -1,9 +1,10 @@
 -- What the steps of a read do: a page is asked for and tested, kept, and a piece of it is copied.
-use Rattle.std.specs.Prelude.{◌≡◌, ℕ, ◌+◌, ◌-◌, ◌*◌, ◌/◌, min, true, if◌then◌else◌, List, [], ◌∷◌, ◌++◌, length, take, drop, Some, None, IfSome}
-use Rattle.e57_base.specs.Source.{SourceView, HasPage, page_of}
+use Rattle.std.specs.Prelude.{◌≡◌, ℕ, ◌+◌, ◌-◌, ◌*◌, ◌/◌, min, true, false, if◌then◌else◌, List, [], ◌∷◌, ◌++◌, length, take, drop, Some, None, IfSome}
+use Rattle.e57_base.specs.Source.{SourceView, HasPage, page_length, page_of}
 use Rattle.e57_base.specs.declared.fault.ReadFault.{ReadFault}
 use Rattle.e57_crc.specs.Crc.{is_right}
 use Rattle.e57_page.specs.declared.header.Header.{Header}
+use Rattle.e57_page.specs.Place.{payload_length}
 use Rattle.e57_page.specs.Kept.{is_kept, page_in, KeepsTo}
 use Rattle.e57_page.specs.Header.{header_of}
 use Rattle.e57_page.specs.File.{logical, length_fault, page_fault, pages_fault, opening_fault}
@@ -12,7 +13,7 @@ use Rattle.e57_page.specs.Pages.{AsksFor, AsksUnkept, IsStopped}
 -- These bytes are page n of the open file, and its word is right.
 pub record IsPage (source : SourceView) (n : ℕ) (page : List ℕ) : Type 0 where
   pub within : HasPage source n
-  pub long : length page ≡ 1024
+  pub long : length page ≡ page_length
   pub right : is_right page ≡ true
   pub bytes : IfSome source.held (λ file. page ≡ page_of file n)
 
@@ -45,11 +46,11 @@ unless_kept kept n = if is_kept kept n then [] else n ∷ []
 
 -- how many of the bytes from place `at` on lie before page n
 abbrev pub before_page : ℕ → ℕ → ℕ
-before_page at n = 1020 * n - at
+before_page at n = payload_length * n - at
 
 -- the bytes of page n that lie in the range of `size` bytes from place `at` on
 abbrev pub page_piece : ℕ → ℕ → ℕ → List ℕ → List ℕ
-page_piece at n size page = take (min (1020 - (at - 1020 * n)) (size - before_page at n)) (drop (at - 1020 * n) page)
+page_piece at n size page = take (min (payload_length - (at - payload_length * n)) (size - before_page at n)) (drop (at - payload_length * n) page)
 
 -- the bytes with this part from a place on
 abbrev pub with_part : ℕ → List ℕ → List ℕ → List ℕ
@@ -59,19 +60,28 @@ with_part place part bytes = take place bytes ++ (part ++ drop (place + length p
 abbrev pub SameBetween : ℕ → ℕ → List ℕ → List ℕ → Type 0
 SameBetween low high xs ys = take (high - low) (drop low xs) ≡ take (high - low) (drop low ys)
 
--- The bytes of the range from place `at` on that lie in page n were read, and no other byte of the buffer changed.
-pub record ReadsPiece (old : SourceView) (kept : List ℕ) (at n : ℕ) (before after : List ℕ) (new : SourceView) : Type 0 where
+-- The bytes of the range from place `at` on that lie in page n were read, and no other byte of the buffer changed. The
+-- range's pages are below `high`.
+pub record ReadsPiece (old : SourceView) (kept : List ℕ) (at n high : ℕ) (before after : List ℕ) (new : SourceView) (now : List ℕ) : Type 0 where
   pub source : AsksFor old (unless_kept kept n) new
+  pub keeps : KeepsTo kept n (n + 1) high now
   pub right : IfSome old.held (λ file. page_fault file n ≡ None)
   pub front : take (before_page at n) after ≡ take (before_page at n) before
   pub piece : IfSome old.held (λ file. SameBetween (before_page at n) (before_page at (n + 1)) after (take (length before) (drop at (logical file))))
   pub rest : drop (before_page at (n + 1)) after ≡ drop (before_page at (n + 1)) before
 
+-- Page n, which wasn't kept, was asked for, and failed or is wrong: the buffer and what is kept are as they were.
+pub record LosesPiece (old : SourceView) (kept : List ℕ) (n : ℕ) (before : List ℕ) (found : ReadFault) (after : List ℕ) (new : SourceView) (now : List ℕ) : Type 0 where
+  pub unkept : is_kept kept n ≡ false
+  pub same_kept : now ≡ kept
+  pub same_bytes : after ≡ before
+  pub page : IsNotFetched old n found new
+
 -- The bytes of the range from place `at` on that lie before page n were read, and no other byte of the buffer changed.
 -- The range's pages are below `high`.
 pub record HasRead (old : SourceView) (kept : List ℕ) (at n high : ℕ) (before after : List ℕ) (new : SourceView) (now : List ℕ) : Type 0 where
-  pub source : AsksUnkept kept (at / 1020) n old new
-  pub keeps : KeepsTo kept (at / 1020) n high now
-  pub right : IfSome old.held (λ file. pages_fault file (at / 1020) (n - at / 1020) ≡ None)
+  pub source : AsksUnkept kept (at / payload_length) n old new
+  pub keeps : KeepsTo kept (at / payload_length) n high now
+  pub right : IfSome old.held (λ file. pages_fault file (at / payload_length) (n - at / payload_length) ≡ None)
   pub bytes : IfSome old.held (λ file. take (before_page at n) after ≡ take (before_page at n) (take (length before) (drop at (logical file))))
   pub rest : drop (before_page at n) after ≡ drop (before_page at n) before

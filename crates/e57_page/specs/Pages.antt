@@ -10,8 +10,8 @@ use Rattle.e57_base.specs.declared.kind.Kind.{Kind}
 use Rattle.e57_base.specs.declared.kind.Kind.TheVariants.{FileLength, Signature, Version, PageSize, Page}
 use Rattle.e57_page.specs.declared.header.Header.{Header}
 use Rattle.e57_page.specs.declared.pages.Cut.{Cut}
-use Rattle.e57_page.specs.Place.{RisesWithin, span_end}
-use Rattle.e57_page.specs.Kept.{is_kept, AreUnkept, KeepsTo}
+use Rattle.e57_page.specs.Place.{payload_length, RisesWithin, span_end}
+use Rattle.e57_page.specs.Kept.{AreUnkept, KeepsTo}
 use Rattle.e57_base.specs.Fault.{fault}
 use Rattle.e57_page.specs.Header.{header_of}
 use Rattle.e57_page.specs.File.{logical, length_fault, page_fault, pages_fault, span_fault, opening_fault}
@@ -74,8 +74,8 @@ IsNotOpened old size Source new = (length_fault size ≡ None) × Rose old.fault
 -- The range of logical bytes from place `at` on was read: all its pages are right. Pages of the range alone were asked
 -- for, and none that was kept. The last 72 of them are kept.
 pub record ReadsRange (old : SourceView) (kept : List ℕ) (at count : ℕ) (out : List ℕ) (new : SourceView) (now : List ℕ) : Type 0 where
-  pub source : AsksUnkept kept (at / 1020) (span_end at count) old new
-  pub keeps : KeepsTo kept (at / 1020) (span_end at count) (span_end at count) now
+  pub source : AsksUnkept kept (at / payload_length) (span_end at count) old new
+  pub keeps : KeepsTo kept (at / payload_length) (span_end at count) (span_end at count) now
   pub right : IfSome old.held (λ file. span_fault file at count ≡ None)
   pub bytes : IfSome old.held (λ file. out ≡ take count (drop at (logical file)))
 
@@ -86,12 +86,12 @@ IsStopped old n Source new = Rose old.faults new.faults
 
 -- The read of a range stopped at page n, the last one that it asked for: the bytes before that page were read.
 pub record IsCutAt (old : SourceView) (kept : List ℕ) (at : ℕ) (before : List ℕ) (cut : Cut) (after : List ℕ) (n : ℕ) (new : SourceView) (now : List ℕ) : Type 0 where
-  pub source : AsksUpTo kept (at / 1020) n old new
-  pub keeps : KeepsTo kept (at / 1020) n (span_end at (length before)) now
+  pub source : AsksUpTo kept (at / payload_length) n old new
+  pub keeps : KeepsTo kept (at / payload_length) n (span_end at (length before)) now
   pub short : cut.done < length before
-  pub done : cut.done ≡ 1020 * n - at
-  pub place : n ≡ (at + cut.done) / 1020
-  pub right : IfSome old.held (λ file. pages_fault file (at / 1020) (n - at / 1020) ≡ None)
+  pub done : cut.done ≡ payload_length * n - at
+  pub place : n ≡ (at + cut.done) / payload_length
+  pub right : IfSome old.held (λ file. pages_fault file (at / payload_length) (n - at / payload_length) ≡ None)
   pub bytes : IfSome old.held (λ file. take cut.done after ≡ take cut.done (drop at (logical file)))
   pub rest : drop cut.done after ≡ drop cut.done before
   pub cause : IsStopped old n cut.fault new

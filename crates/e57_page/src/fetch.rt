@@ -2,12 +2,13 @@
 
 ghost use Rattle.std.specs.Prelude.{◌≡◌, ◌/◌, ℕ, Some, None, MatchResult};
 ghost use Rattle.e57_base.specs.Fault.{fault};
-ghost use Rattle.e57_base.specs.Source.{HasPage};
+ghost use Rattle.e57_base.specs.Source.{HasPage, page_length};
 ghost use Rattle.e57_page.specs.File.{length_fault};
 ghost use Rattle.e57_page.specs.Pages.{IsOpened, IsNotOpened, IsScanned, IsScannedTo};
 ghost use Rattle.e57_page.specs.Fetch.{IsPage, IsFetched, IsNotFetched};
 
 use crate::header::Header;
+use crate::place::PAGE;
 use e57_base::{Fault, Kind, ReadFault, Source};
 use e57_crc::word_right;
 
@@ -63,12 +64,12 @@ pub fn fetch_first<S: Source>(
 /// Asks for each page of a file of `length` bytes in order, and tests its word. Answers the number of pages.
 pub fn scan<S: Source>(source: &mut S, length: u64) -> Result<u64, ReadFault>
     requires { (S.view source.old).size ≡ Some length }
-    ensures count { MatchResult result (λ count. count ≡ length / 1024) (λ _. Unit {0}) }
+    ensures count { MatchResult result (λ count. count ≡ length / page_length) (λ _. Unit {0}) }
     ensures pages { MatchResult result
         (λ count. IsScanned (S.view source.old) count (S.view source.new))
-        (λ fault. (n : ℕ) × IsScannedTo (S.view source.old) (length / 1024) fault n (S.view source.new)) }
+        (λ fault. (n : ℕ) × IsScannedTo (S.view source.old) (length / page_length) fault n (S.view source.new)) }
 {
-    let count = length / 1024;
+    let count = length / PAGE;
     let mut page = [0; 1024];
     for n in 0..count {
         if let Err(fault) = fetch(source, n, &mut page) {

@@ -1,16 +1,19 @@
 //! The pages of an open file.
 
-ghost use Rattle.std.specs.Prelude.{◌≡◌, ◌+◌, ◌*◌, ◌/◌, ◌≤◌, ◌<◌, ℕ, Some, None, false, length, IfSome, MatchResult};
+ghost use Rattle.std.specs.Prelude.{◌≡◌, ◌+◌, ◌*◌, ◌/◌, ◌≤◌, ◌<◌, ℕ, Some, None, length, IfSome, MatchResult};
+ghost use Rattle.e57_base.specs.Source.{page_length};
+ghost use Rattle.e57_page.specs.Place.{payload_length};
 ghost use Rattle.e57_page.specs.Header.{header_of};
 ghost use Rattle.e57_page.specs.File.{length_fault, opening_fault};
-ghost use Rattle.e57_page.specs.Kept.{is_kept, KeepsFirst, KeepsTo};
+ghost use Rattle.e57_page.specs.Kept.{KeepsFirst};
 ghost use Rattle.e57_page.specs.Pages.{IsOpened, IsNotOpened, ReadsRange, IsCutAt, IsScanned, IsScannedTo};
-ghost use Rattle.e57_page.specs.Fetch.{ReadsPiece, IsNotFetched};
+ghost use Rattle.e57_page.specs.Fetch.{ReadsPiece, LosesPiece};
 
 use crate::fetch::{fetch, fetch_first, scan};
 use crate::header::Header;
 use crate::kept::{Kept, keep, keep_first, kept_page};
-use crate::piece::{PAYLOAD, before_page, copy_piece, span_end};
+use crate::piece::{before_page, copy_piece, span_end};
+use crate::place::{PAGE, PAYLOAD};
 use e57_base::{Fault, Kind, ReadFault, Source};
 use std::marker::Model;
 
@@ -93,11 +96,11 @@ impl<S: Source> Pages<S> {
 
     /// The number of logical bytes of the file, which is still open and has one or more whole pages.
     pub fn logical_len(&self) -> u64
-        ensures count { result ≡ self.now.length / 1024 * 1020 }
+        ensures count { result ≡ self.now.length / page_length * payload_length }
         ensures open_size { (S.view self.now.source).size ≡ Some self.now.length }
         ensures whole { length_fault self.now.length ≡ None }
     {
-        self.length / 1024 * 1020
+        self.length / PAGE * PAYLOAD
     }
 
     /// Reads the logical bytes from place `at` on into `out`. The range lies in the logical bytes.
@@ -107,12 +110,14 @@ impl<S: Source> Pages<S> {
     /// (`Page`) stopped the read: the bytes of the range before that page were read, and the rest of `out` is as it was.
     /// The value can be used afterwards as before.
     pub fn read(&mut self, at: u64, out: &mut [u8]) -> Result<(), Cut>
-        requires { at + length out.old ≤ self.old.length / 1024 * 1020 }
+        requires { at + length out.old ≤ self.old.length / page_length * payload_length }
         ensures length { self.new.length ≡ self.old.length }
         ensures header { self.new.header ≡ self.old.header }
-        ensures range { MatchResult result
-            (λ _. ReadsRange (S.view self.old.source) self.old.kept at (length out.old) out.new (S.view self.new.source) self.new.kept)
-            (λ cut. (n : ℕ) × IsCutAt (S.view self.old.source) self.old.kept at out.old cut out.new n (S.view self.new.source) self.new.kept) }
+        ensures range { let old = S.view self.old.source in
+            let new = S.view self.new.source in
+            MatchResult result
+            (λ _. ReadsRange old self.old.kept at (length out.old) out.new new self.new.kept)
+            (λ cut. (n : ℕ) × IsCutAt old self.old.kept at out.old cut out.new n new self.new.kept) }
     {
         let limit = self.logical_len();
         prove!(at <= limit);
@@ -130,22 +135,18 @@ impl<S: Source> Pages<S> {
 
     /// Reads the bytes of the range from place `at` on that lie in page `n`, each to its place in `out`. The range's pages
     /// are below `high`. After a refusal `out` and the pages that are kept are as they were.
-    fn read_piece(
-        &mut self,
-        n: u64,
-        high: u64,
-        at: u64,
-        out: &mut [u8],
-    ) -> Result<(), ReadFault>
-        requires page { n < self.old.length / 1024 }
+    fn read_piece(&mut self, n: u64, high: u64, at: u64, out: &mut [u8]) -> Result<(), ReadFault>
+        requires page { n < self.old.length / page_length }
         requires below { n < high }
-        requires reaches { at < 1020 * (n + 1) }
-        requires begins { 1020 * n < at + length out.old }
+        requires reaches { at < payload_length * (n + 1) }
+        requires begins { payload_length * n < at + length out.old }
         ensures length { self.new.length ≡ self.old.length }
         ensures header { self.new.header ≡ self.old.header }
-        ensures piece { MatchResult result
-            (λ _. KeepsTo self.old.kept n (n + 1) high self.new.kept × ReadsPiece (S.view self.old.source) self.old.kept at n out.old out.new (S.view self.new.source))
-            (λ fault. (is_kept self.old.kept n ≡ false) × (self.new.kept ≡ self.old.kept) × (out.new ≡ out.old) × IsNotFetched (S.view self.old.source) n fault (S.view self.new.source)) }
+        ensures piece { let old = S.view self.old.source in
+            let new = S.view self.new.source in
+            MatchResult result
+            (λ _. ReadsPiece old self.old.kept at n high out.old out.new new self.new.kept)
+            (λ fault. LosesPiece old self.old.kept n out.old fault out.new new self.new.kept) }
     {
         if let Some(page) = kept_page(&self.kept, n) {
             copy_piece(page, n, at, out);
@@ -166,21 +167,26 @@ impl<S: Source> Pages<S> {
         ensures length { self.new.length ≡ self.old.length }
         ensures header { self.new.header ≡ self.old.header }
         ensures kept { self.new.kept ≡ self.old.kept }
-        ensures count { MatchResult result (λ count. count ≡ self.old.length / 1024) (λ _. Unit {0}) }
-        ensures pages { MatchResult result
-            (λ count. IsScanned (S.view self.old.source) count (S.view self.new.source))
-            (λ fault. (n : ℕ) × IsScannedTo (S.view self.old.source) (self.old.length / 1024) fault n (S.view self.new.source)) }
+        ensures count { MatchResult result (λ count. count ≡ self.old.length / page_length) (λ _. Unit {0}) }
+        ensures pages { let old = S.view self.old.source in
+            let new = S.view self.new.source in
+            MatchResult result
+            (λ count. IsScanned old count new)
+            (λ fault. (n : ℕ) × IsScannedTo old (self.old.length / page_length) fault n new) }
     {
         let length = self.length;
         scan(&mut self.source, length)
     }
 }
 
+/// The most bytes that a file has.
+const LONGEST: u64 = 1 << 48;
+
 /// The fault of a length in bytes: it is 0, no multiple of 1024 or above 2^48.
 #[tactic(auto, unfolding(crate::specs::File::length_fault))]
 fn judge_length(length: u64) -> Option<Fault>
     ensures { result ≡ length_fault length }
 {
-    let wrong = length == 0 || length % 1024 != 0 || length > 1 << 48;
+    let wrong = length == 0 || length % PAGE != 0 || length > LONGEST;
     wrong.then_some(Fault::new(Kind::FileLength, length, 0))
 }

@@ -12,10 +12,8 @@ returns-in-Some-clause-piece g c =
     let size : inside.length ≡ c.args.self.now.length = ap (λ (reading : Reading _). reading.length) c.self.view_is in
     let below : c.args.n < inside.length / 1024 = rw size c.requires.page in
     let page = page_held view inside.kept.numbers inside.kept.pages c.args.n c.in-Some.page.now c.self.invariant.kept held.0 held.1 in
-    rw (← c.self.view_is) (
-      keeps_kept inside.kept.numbers c.args.n c.args.high held.0,
-      reads_piece view view inside.kept.numbers c.args.at c.args.n inside.length c.in-Some.page.now c.args.out.now c.copy_piece.new.out (g.met.S.Source.holds_size inside.source) c.self.invariant.open_size below c.requires.reaches c.requires.begins page.long (kept_asks view inside.kept.numbers c.args.n held.0) page c.copy_piece.ensures,
-    )
+    rw (← c.self.view_is)
+    (reads_piece view view inside.kept.numbers inside.kept.numbers c.args.at c.args.n c.args.high inside.length c.in-Some.page.now c.args.out.now c.copy_piece.new.out (keeps_kept inside.kept.numbers c.args.n c.args.high held.0) (g.met.S.Source.holds_size inside.source) c.self.invariant.open_size below c.requires.reaches c.requires.begins page.long (kept_asks view inside.kept.numbers c.args.n held.0) page c.copy_piece.ensures)
 
 pub invariant_of-self-2 : goal.invariant_of-self-2
 invariant_of-self-2 g c =
@@ -33,7 +31,5 @@ returns-clause-piece g c =
     let size : inside.length ≡ c.args.self.now.length = ap (λ (reading : Reading _). reading.length) c.self.view_is in
     let below : c.args.n < inside.length / 1024 = rw size c.requires.page in
     let keeps = keeps_read inside.kept.numbers c.keep.new.kept.numbers c.args.n c.args.high places.0 c.requires.below c.keep.ensures.numbers in
-    rw (← c.self.view_is) (
-      keeps,
-      reads_piece (g.S.Source.view inside.source) (g.S.Source.view c.fetch.new.source) inside.kept.numbers c.args.at c.args.n inside.length c.fetch.new.page c.args.out.now c.copy_piece-2.new.out (g.met.S.Source.holds_size inside.source) c.self.invariant.open_size below c.requires.reaches c.requires.begins fetched.right_page.long (unkept_asks (g.S.Source.view inside.source) (g.S.Source.view c.fetch.new.source) inside.kept.numbers c.args.n free fetched.source) fetched.right_page c.copy_piece-2.ensures,
-    )
+    rw (← c.self.view_is)
+    (reads_piece (g.S.Source.view inside.source) (g.S.Source.view c.fetch.new.source) inside.kept.numbers c.keep.new.kept.numbers c.args.at c.args.n c.args.high inside.length c.fetch.new.page c.args.out.now c.copy_piece-2.new.out keeps (g.met.S.Source.holds_size inside.source) c.self.invariant.open_size below c.requires.reaches c.requires.begins fetched.right_page.long (unkept_asks (g.S.Source.view inside.source) (g.S.Source.view c.fetch.new.source) inside.kept.numbers c.args.n free fetched.source) fetched.right_page c.copy_piece-2.ensures)
