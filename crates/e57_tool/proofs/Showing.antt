@@ -1,8 +1,9 @@
 -- How `info` ends, from what opening the file and showing its text found.
-use Rattle.std.proofs.Common.{◌≡◌, ℕ, ◌/◌, Bool, true, false, ◌||◌, List, [], ◌∷◌, Option, Some, None, inl, inr, refl, sym, subst}
+use Rattle.std.proofs.Common.{◌≡◌, ℕ, ◌/◌, Bool, true, false, ◌||◌, List, [], ◌∷◌, Some, None, inl, inr, refl, sym, subst, ◌∙◌}
 use Rattle.std.specs.Prelude.{IfSome}
 use Rattle.e57_base.specs.Source.{SourceView, asks_on}
 use Rattle.e57_base.specs.Sink.{SinkView}
+use Rattle.e57_base.specs.declared.fault.Fault.{Fault}
 use Rattle.e57_base.specs.declared.fault.RunFault.{RunFault}
 use Rattle.e57_base.specs.declared.fault.RunFault.TheVariants.{Refused, Source, Out, Memory}
 use Rattle.e57_base.specs.Count.{rose_before}
@@ -15,18 +16,21 @@ use Rattle.e57_file.specs.Section.{start_of, IsTextFault}
 use Rattle.e57_file.specs.Text.{AsksForSection, is_text_kind}
 use Rattle.e57_show.specs.Info.{InfoEnds, ShowsText, HasNoTextFault, IsShown}
 use Rattle.e57_file.specs.Told.{told_map, told_both, told_here}
-use Rattle.e57_tool.specs.Run.{OpensOnce, IsOpen}
-use Rattle.e57_tool.specs.Opening.{IsOpenedFile, IsUnopenedFile, AsksAtMostForFirst}
-use Rattle.e57_tool.specs.Info.{IsInfoFault, HasSoundText, IsInfoOutput, IsTextAsk, AsksForText, InfoRunEnds}
-use Rattle.e57_tool.proofs.Opening.{opens_later, open_later}
+use Rattle.e57_tool.specs.declared.ending.Ending.TheVariants.{Failed}
+use Rattle.e57_tool.specs.Opening.{OpensOnce, IsOpen, IsOpenedFile, IsUnopenedFile, AsksAtMostForFirst}
+use Rattle.e57_tool.specs.FileAnswer.{ReadsFile}
+use Rattle.e57_tool.specs.Info.{IsInfoFault, HasSoundText, IsTextAsk, AsksForText, info_answer, info_rule}
+use Rattle.e57_tool.proofs.OpenedFile.{opens_later, open_later}
+use Rattle.e57_tool.proofs.Asked.{told_always, stops_before, stops_at_first, goes_on}
 
-always : (P : List ℕ → Type 0) (held : Option (List ℕ)) → ((file : List ℕ) → P file) → IfSome held P
-always P None f = tt
-always P (Some file) f = f file
+pub is_either : (file : List ℕ) (found : Fault) → HasSoundText file → IsInfoFault file found → ⊥
+is_either file found sound fault = sound found fault
 
 first_asked : (old new : SourceView) → AsksAtMostForFirst old new → AsksForText old new
-first_asked old new (inl none) = ([], none, always (λ file. IsTextAsk (header_of file) []) new.held (λ file. inl refl))
-first_asked old new (inr first) = (0 ∷ [], first, always (λ file. IsTextAsk (header_of file) (0 ∷ [])) new.held (λ file. inr ([], refl, tt)))
+first_asked old new (inl none) =
+    record { pages = []; asks = none; stops = stops_before new; of_text = told_always (λ file. IsTextAsk (header_of file) []) new.held (λ file. inl refl) }
+first_asked old new (inr (first, (size, is, whole))) =
+    record { pages = 0 ∷ []; asks = first; stops = stops_at_first new size is whole; of_text = told_always (λ file. IsTextAsk (header_of file) (0 ∷ [])) new.held (λ file. inr ([], refl, tt)) }
 
 either_kind : (a b : Bool) → a ≡ true → (a || b) ≡ true
 either_kind true b e = refl
@@ -37,11 +41,11 @@ other_kind true b e = refl
 other_kind false b e = e
 
 -- the file was not opened
-pub unopened_info : (name : List ℕ) (old new : SourceView) (out : SinkView) (fault : RunFault) → IsUnopenedFile name old fault new → InfoRunEnds name old new out out (Some fault)
+pub unopened_info : (name : List ℕ) (old new : SourceView) (out : SinkView) (fault : RunFault) → IsUnopenedFile name old fault new → ReadsFile info_answer info_rule name old new out out (Failed fault)
 unopened_info name old new out (Refused found) refused =
     record {
-      asked = first_asked old new refused.asked;
-      ends = record {
+      pages = first_asked old new refused.asked;
+      answers = record {
         opens = refused.opens;
         file = refused.file;
         first = told_map (λ file. opening_fault file ≡ Some found) (λ file. IsInfoFault file found) new.held (λ file first. inl first) refused.first;
@@ -49,20 +53,23 @@ unopened_info name old new out (Refused found) refused =
         nothing = refl;
       };
     }
-unopened_info name old new out Source lost = record { asked = first_asked old new lost.1; ends = record { opens = lost.0; cause = lost.2; nothing = refl } }
+unopened_info name old new out Source lost = record { pages = first_asked old new lost.1; answers = record { opens = lost.0; cause = lost.2; nothing = refl } }
 unopened_info name old new out Out never = absurd never
 unopened_info name old new out Memory never = absurd never
 
 -- page 0 and then the pages of the section were asked for
 text_asked : (name : List ℕ) (old mid new : SourceView) (size kept : ℕ) (header : Header) → IsOpenedFile name old size header kept mid → AsksForSection header kept mid new → AsksForText old new
-text_asked name old mid new size kept header opened asked = (
-  0 ∷ asked.0,
-  asks_on old.asked mid.asked new.asked (0 ∷ []) asked.0 opened.asked asked.2.asked,
-  told_here (λ file. IsTextAsk (header_of file) (0 ∷ asked.0)) mid.held new.held asked.2.same.held
-      (told_map (λ file. header ≡ header_of file) (λ file. IsTextAsk (header_of file) (0 ∷ asked.0)) mid.held
-      (λ file is. inr (asked.0, refl, subst (λ (h : Header). RisesWithin (unless_kept 0 (start_of h / 1020)) (span_end (start_of h) h.xml_length) asked.0) is (subst (λ (k : ℕ). RisesWithin (unless_kept k (start_of header / 1020)) (span_end (start_of header) header.xml_length) asked.0) opened.first asked.1)))
-      opened.read),
-)
+text_asked name old mid new size kept header opened asked =
+    let same = asked.2.same in
+    record {
+      pages = 0 ∷ asked.0;
+      asks = asks_on old.asked mid.asked new.asked (0 ∷ []) asked.0 opened.asked asked.2.asked;
+      stops = goes_on new (0 ∷ asked.0) size (same.size ∙ opened.size_is) opened.whole (told_here (λ file. opening_fault file ≡ None) mid.held new.held same.held opened.sound);
+      of_text = told_here (λ file. IsTextAsk (header_of file) (0 ∷ asked.0)) mid.held new.held same.held
+          (told_map (λ file. header ≡ header_of file) (λ file. IsTextAsk (header_of file) (0 ∷ asked.0)) mid.held
+          (λ file is. inr (asked.0, refl, subst (λ (h : Header). RisesWithin (unless_kept 0 (start_of h / 1020)) (span_end (start_of h) h.xml_length) asked.0) is (subst (λ (k : ℕ). RisesWithin (unless_kept k (start_of header / 1020)) (span_end (start_of header) header.xml_length) asked.0) opened.first asked.1)))
+          opened.read);
+    }
 
 no_info_fault : (header : Header) (file : List ℕ) → opening_fault file ≡ None → header ≡ header_of file → HasNoTextFault header file → HasSoundText file
 no_info_fault header file opens is none found (inl early) = absurd cc
@@ -74,7 +81,7 @@ pub record IsShownFile (name : List ℕ) (old : SourceView) (text : List ℕ) (n
   pub opens : OpensOnce old name new
   pub file : IsOpen old name new
   pub sound : IfSome new.held HasSoundText
-  pub output : IfSome new.held (λ file. IsInfoOutput file text)
+  pub output : IfSome new.held (λ file. IsShown (header_of file) file text)
 
 pub shown_file : (name : List ℕ) (old mid new : SourceView) (size kept : ℕ) (header : Header) (text : List ℕ) → IsOpenedFile name old size header kept mid → ShowsText header kept mid text new → IsShownFile name old text new
 shown_file name old mid new size kept header text opened shows =
@@ -85,17 +92,17 @@ shown_file name old mid new size kept header text opened shows =
       opens = opens_later opened.opens same shows.source.2.faults;
       file = open_later old mid new name opened.file same;
       sound = told_here HasSoundText mid.held new.held same.held (told_both (λ file. (opening_fault file ≡ None) × (header ≡ header_of file)) (λ file. HasNoTextFault header file) HasSoundText mid.held (λ file both none. no_info_fault header file both.0 both.1 none) here shows.sound);
-      output = told_here (λ file. IsInfoOutput file text) mid.held new.held same.held (told_both (λ file. header ≡ header_of file) (λ file. IsShown header file text) (λ file. IsInfoOutput file text) mid.held (λ file is shown. subst (λ (h : Header). IsShown h file text) is shown) opened.read shows.shown);
+      output = told_here (λ file. IsShown (header_of file) file text) mid.held new.held same.held (told_both (λ file. header ≡ header_of file) (λ file. IsShown header file text) (λ file. IsShown (header_of file) file text) mid.held (λ file is shown. subst (λ (h : Header). IsShown h file text) is shown) opened.read shows.shown);
     }
 
 -- the text has a fault, or a call failed
-pub failed_info : (name : List ℕ) (old mid new : SourceView) (out out' : SinkView) (size kept : ℕ) (header : Header) (fault : RunFault) → IsOpenedFile name old size header kept mid → InfoEnds header kept mid new out out' (Some fault) → InfoRunEnds name old new out out' (Some fault)
+pub failed_info : (name : List ℕ) (old mid new : SourceView) (out out' : SinkView) (size kept : ℕ) (header : Header) (fault : RunFault) → IsOpenedFile name old size header kept mid → InfoEnds header kept mid new out out' (Some fault) → ReadsFile info_answer info_rule name old new out out' (Failed fault)
 failed_info name old mid new out out' size kept header (Refused found) opened (asked, kind, first, nothing) =
     let same = asked.2.same in
     let here = told_both (λ file. opening_fault file ≡ None) (λ file. header ≡ header_of file) (λ file. (opening_fault file ≡ None) × (header ≡ header_of file)) mid.held (λ file opens is. (opens, is)) opened.sound opened.read in
     record {
-      asked = text_asked name old mid new size kept header opened asked;
-      ends = record {
+      pages = text_asked name old mid new size kept header opened asked;
+      answers = record {
         opens = opens_later opened.opens same asked.2.faults;
         file = open_later old mid new name opened.file same;
         first = told_here (λ file. IsInfoFault file found) mid.held new.held same.held (told_both (λ file. (opening_fault file ≡ None) × (header ≡ header_of file)) (λ file. IsTextFault header file found) (λ file. IsInfoFault file found) mid.held (λ file both late. inr (both.0, subst (λ (h : Header). IsTextFault h file found) both.1 late)) here first);
@@ -105,17 +112,23 @@ failed_info name old mid new out out' size kept header (Refused found) opened (a
     }
 failed_info name old mid new out out' size kept header Source opened (asked, cause, nothing) =
     record {
-      asked = text_asked name old mid new size kept header opened asked;
-      ends = record { opens = opens_later opened.opens asked.2.same asked.2.faults; cause = rose_before old.faults mid.faults new.faults opened.opens.faults cause; nothing = nothing };
+      pages = text_asked name old mid new size kept header opened asked;
+      answers = record { opens = opens_later opened.opens asked.2.same asked.2.faults; cause = rose_before old.faults mid.faults new.faults opened.opens.faults cause; nothing = nothing };
     }
 failed_info name old mid new out out' size kept header Out opened (text, shows, cause, wrote) =
     let file = shown_file name old mid new size kept header text opened shows in
     record {
-      asked = file.asked;
-      ends = record { opens = file.opens; file = file.file; sound = file.sound; cause = cause; wrote = (text, file.output, wrote) };
+      pages = file.asked;
+      answers = record { opens = file.opens; file = file.file; sound = file.sound; cause = cause; wrote = (text, file.output, wrote) };
     }
 failed_info name old mid new out out' size kept header Memory opened (asked, nothing) =
     record {
-      asked = text_asked name old mid new size kept header opened asked;
-      ends = (opens_later opened.opens asked.2.same asked.2.faults, nothing);
+      pages = text_asked name old mid new size kept header opened asked;
+      answers = record {
+        takes = refl;
+        opens = opens_later opened.opens asked.2.same asked.2.faults;
+        file = open_later old mid new name opened.file asked.2.same;
+        long = told_here (λ file. opening_fault file ≡ None) mid.held new.held asked.2.same.held opened.sound;
+        nothing = nothing;
+      };
     }

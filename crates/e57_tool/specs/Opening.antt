@@ -1,29 +1,44 @@
 -- A file is opened for a command: its length, its header and its page 0 are judged.
-use Rattle.std.specs.Prelude.{◌≡◌, ◌⊎◌, ℕ, true, List, [], ◌∷◌, length, Some, None, IfSome}
-use Rattle.e57_base.specs.Count.{Rose}
-use Rattle.e57_base.specs.Source.{SourceView, Asks}
+use Rattle.std.specs.Prelude.{◌≡◌, ◌⊎◌, ℕ, ◌≤◌, true, if◌then◌else◌, List, [], ◌∷◌, length, Some, None, IsSome, IfSome}
+use Rattle.std.specs.FinMap.{get}
+use Rattle.e57_base.specs.Count.{raised, Rose}
+use Rattle.e57_base.specs.Source.{SourceView, Asks, misses}
 use Rattle.e57_base.specs.declared.fault.Fault.{Fault}
 use Rattle.e57_base.specs.declared.fault.RunFault.{RunFault}
 use Rattle.e57_base.specs.declared.fault.RunFault.TheVariants.{Refused, Source, Out, Memory}
 use Rattle.e57_page.specs.declared.header.Header.{Header}
 use Rattle.e57_page.specs.Header.{header_of}
-use Rattle.e57_page.specs.File.{opening_fault}
+use Rattle.e57_page.specs.File.{length_fault, opening_fault}
 use Rattle.e57_page.specs.Pages.{is_opening_kind}
-use Rattle.e57_tool.specs.Run.{OpensOnce, IsOpen}
+
+-- The file of this name was opened or failed to open, once, and no other name was tried.
+pub record OpensOnce (old : SourceView) (name : List ℕ) (new : SourceView) : Type 0 where
+  pub stock : new.stock ≡ old.stock
+  pub opened : new.opened ≡ raised old.opened
+  pub missed : new.missed ≡ (if misses old.stock name then raised old.missed else old.missed)
+  pub faults : old.faults ≤ new.faults
+
+-- the file of this name is open
+pub record IsOpen (old : SourceView) (name : List ℕ) (new : SourceView) : Type 0 where
+  pub size : IsSome new.size
+  pub held : IfSome old.stock (λ files. new.held ≡ get files name)
 
 -- The file is open, and its length, header and page 0 have no fault. Page 0 was asked for, once, and is kept.
 pub record IsOpenedFile (name : List ℕ) (old : SourceView) (size : ℕ) (header : Header) (kept : ℕ) (new : SourceView) : Type 0 where
   pub opens : OpensOnce old name new
   pub file : IsOpen old name new
+  pub size_is : new.size ≡ Some size
+  pub whole : length_fault size ≡ None
   pub asked : Asks old.asked (0 ∷ []) new.asked
   pub first : kept ≡ 0
   pub sound : IfSome new.held (λ file. opening_fault file ≡ None)
   pub long : IfSome new.held (λ file. length file ≡ size)
   pub read : IfSome new.held (λ file. header ≡ header_of file)
 
--- No page was asked for, or page 0 once.
+-- No page was asked for, or page 0 once, where the length has no fault.
 abbrev pub AsksAtMostForFirst : SourceView → SourceView → Type 0
-AsksAtMostForFirst old new = Asks old.asked [] new.asked ⊎ Asks old.asked (0 ∷ []) new.asked
+AsksAtMostForFirst old new =
+    Asks old.asked [] new.asked ⊎ (Asks old.asked (0 ∷ []) new.asked × ((size : ℕ) × (new.size ≡ Some size) × (length_fault size ≡ None)))
 
 -- The file is open, and its length, header or page 0 has this fault.
 pub record IsRefusedFile (name : List ℕ) (old : SourceView) (found : Fault) (new : SourceView) : Type 0 where

@@ -1,7 +1,7 @@
 //! Lines of text of bounded length.
 
-ghost use Rattle.std.specs.Prelude.{◌≡◌};
-ghost use Rattle.e57_tool.specs.Lines.{pages_line, refused_line, words_line};
+ghost use Rattle.std.specs.Prelude.{◌≡◌, ◌≤◌, ◌++◌, length};
+ghost use Rattle.e57_tool.specs.Lines.{pages_line, refused_line, second_line, fault_words, words_line};
 
 use arrayvec::ArrayString;
 use e57_base::Fault;
@@ -31,13 +31,31 @@ pub fn refused_line(fault: &Fault) -> Line
 {
     let mut line = Line::new();
     line.push_str("refused ");
+    push_fault(&mut line, fault);
+    line
+}
+
+/// `second KIND A B`
+pub fn second_line(fault: &Fault) -> Line
+    ensures { result.bytes ≡ second_line fault.now }
+{
+    let mut line = Line::new();
+    line.push_str("second ");
+    push_fault(&mut line, fault);
+    line
+}
+
+// Appends the kind and the two numbers of a fault, and a line feed.
+fn push_fault(line: &mut Line, fault: &Fault)
+    requires { length line.old.bytes ≤ 8 }
+    ensures { line.new.bytes ≡ line.old.bytes ++ fault_words fault.now }
+{
     line.push_str(fault.kind.name());
     line.push_str(" ");
     line.push_str(Buffer::new().format(fault.a));
     line.push_str(" ");
     line.push_str(Buffer::new().format(fault.b));
     line.push_str("\n");
-    line
 }
 
 /// `words N`
@@ -48,5 +66,15 @@ pub fn words_line(at: u64) -> Line
     line.push_str("words ");
     line.push_str(Buffer::new().format(at));
     line.push_str("\n");
+    line
+}
+
+/// A line that has no number.
+pub fn text_line(text: &str) -> Line
+    requires { length text.now ≤ 96 }
+    ensures { result.bytes ≡ text.now }
+{
+    let mut line = Line::new();
+    line.push_str(text);
     line
 }

@@ -15,8 +15,7 @@ use Rattle.e57_page.specs.Header.{header_of, fault}
 use Rattle.e57_page.specs.File.{length_fault, opening_fault}
 use Rattle.e57_page.specs.Pages.{AsksFor, is_opening_kind, IsOpened, IsNotOpened, IsRefusedByPage}
 use Rattle.e57_file.specs.Told.{told_map, told_here, length_told}
-use Rattle.e57_tool.specs.Run.{OpensOnce, IsOpen}
-use Rattle.e57_tool.specs.Opening.{IsOpenedFile, IsRefusedFile, IsUnopenedFile}
+use Rattle.e57_tool.specs.Opening.{OpensOnce, IsOpen, IsOpenedFile, IsRefusedFile, IsUnopenedFile}
 
 -- the file is opened, and then the source does no more than to give pages
 pub opens_once : {old mid new : SourceView} {name : List ℕ} {result : Result ℕ Failed} → Opens old name result mid → SameFile mid new → mid.faults ≤ new.faults → OpensOnce old name new
@@ -77,6 +76,8 @@ opened_file old mid new name size told kept header opens holds opened first =
     record {
       opens = opens_once opens same opened.source.faults;
       file = is_open old mid new name size opens same;
+      size_is = let still : new.size ≡ Some size = same.size ∙ opens.size in rw opened.length still;
+      whole = rw opened.length opened.sound;
       asked = asked_here old.asked mid.asked new.asked _ opens.asked opened.source.asked;
       first = first;
       sound = told_here (λ file. opening_fault file ≡ None) mid.held new.held same.held opened.first;
@@ -89,7 +90,7 @@ refused_file old mid new name size found opens holds refused = elim (length_faul
   | None ↦ λ none page. record {
     opens = opens_once opens page.source.same page.source.faults;
     file = is_open old mid new name size opens page.source.same;
-    asked = inr (asked_here old.asked mid.asked new.asked _ opens.asked page.source.asked);
+    asked = inr (asked_here old.asked mid.asked new.asked _ opens.asked page.source.asked, (size, page.source.same.size ∙ opens.size, none));
     kind = page.kind;
     first = told_here (λ file. opening_fault file ≡ Some found) mid.held new.held page.source.same.held page.first;
   }
@@ -107,7 +108,7 @@ refused_file old mid new name size found opens holds refused = elim (length_faul
 pub source_lost : (old mid new : SourceView) (name : List ℕ) (size : ℕ) → Opens old name (Ok size) mid → IsNotOpened mid size Source new → IsUnopenedFile name old run.Source new
 source_lost old mid new name size opens lost = (
   opens_once opens lost.2.same lost.2.faults,
-  inr (asked_here old.asked mid.asked new.asked _ opens.asked lost.2.asked),
+  inr (asked_here old.asked mid.asked new.asked _ opens.asked lost.2.asked, (size, lost.2.same.size ∙ opens.size, lost.0)),
   rose_before old.faults mid.faults new.faults opens.faults lost.1,
 )
 

@@ -1,5 +1,5 @@
-use Rattle.e57_tool.proofs.Opening.{refused_file, name_lost}
-use Rattle.e57_tool.proofs.commands.open_pages.Goals as goal
+use Rattle.e57_tool.proofs.OpenedFile.{refused_file, name_lost}
+use Rattle.e57_tool.proofs.opening.open_file.Goals as goal
 
 pub returns-in_default : goal.returns-in_default
 returns-in_default g c = name_lost (g.S.Source.view c.args.source) (g.S.Source.view c.open.new.self) c.args.name.now c.in_default.field-0 c.in_default.ensures

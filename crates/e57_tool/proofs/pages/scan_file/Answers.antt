@@ -1,5 +1,5 @@
-use Rattle.e57_tool.proofs.Scanning.{unopened_pages, wrong_page, scanned_file, text_is}
-use Rattle.e57_tool.proofs.commands.pages.Goals as goal
+use Rattle.e57_tool.proofs.Scanning.{unopened_pages, wrong_page, lost_page, scanned_file, text_is}
+use Rattle.e57_tool.proofs.pages.scan_file.Goals as goal
 
 pub returns-in-Err : goal.returns-in-Err
 returns-in-Err g c = unopened_pages c.args.name.now (g.S.Source.view c.args.source) (g.S.Source.view c.in-Err.source) (g.O.Sink.view c.args.out.now) c.in-Err.fault c.in-Err.ensures
@@ -12,6 +12,14 @@ returns-in-Refused g c =
     rw c.into_source.ensures
     (wrong_page c.args.name.now (view c.args.source) (view opened.source) (view c.scan.new.self.source) (g.O.Sink.view c.args.out.now) opened.length opened.kept scanned.0 opened.header c.in-Refused.found c.in-Ok.ensures (rw c.in-Refused.is at scanned.1))
 
+pub returns-in-Source : goal.returns-in-Source
+returns-in-Source g c =
+    let view = g.S.Source.view in
+    let opened = c.in-Ok.pages in
+    let scanned = c.in-Err-scan.ensures.pages in
+    rw c.into_source-in-Source.ensures
+    (lost_page c.args.name.now (view c.args.source) (view opened.source) (view c.scan.new.self.source) (g.O.Sink.view c.args.out.now) opened.length opened.kept scanned.0 opened.header c.in-Ok.ensures (rw c.in-Source.is at scanned.1))
+
 pub returns-in-Ok-put : goal.returns-in-Ok-put
 returns-in-Ok-put g c =
     let view = g.S.Source.view in
@@ -19,7 +27,7 @@ returns-in-Ok-put g c =
     let scanned = c.in-Ok-scan.ensures in
     let text = text_is c.in-Ok-scan.count c.as_bytes.ensures.value c.as_str.ensures.value c.pages_line-line.ensures c.header-header.ensures in
     let file = scanned_file c.args.name.now (view c.args.source) (view opened.source) (view c.scan.new.self.source) opened.length opened.kept c.in-Ok-scan.count opened.header c.as_bytes.result.now c.in-Ok.ensures scanned.pages scanned.count text in
-    rw c.into_source-source.ensures (record { opens = file.opens; file = file.file; sound = file.sound; wrote = (c.as_bytes.result.now, file.output, c.in-Ok-put.ensures.written) })
+    rw c.into_source-source.ensures (record { pages = file.asked; answers = record { opens = file.opens; file = file.file; sound = file.sound; wrote = (c.as_bytes.result.now, file.output, c.in-Ok-put.ensures.written) } })
 
 pub returns-in-Err-put : goal.returns-in-Err-put
 returns-in-Err-put g c =
@@ -28,4 +36,4 @@ returns-in-Err-put g c =
     let scanned = c.in-Ok-scan.ensures in
     let text = text_is c.in-Ok-scan.count c.as_bytes.ensures.value c.as_str.ensures.value c.pages_line-line.ensures c.header-header.ensures in
     let file = scanned_file c.args.name.now (view c.args.source) (view opened.source) (view c.scan.new.self.source) opened.length opened.kept c.in-Ok-scan.count opened.header c.as_bytes.result.now c.in-Ok.ensures scanned.pages scanned.count text in
-    rw c.into_source-source.ensures (record { opens = file.opens; file = file.file; sound = file.sound; cause = c.in-Err-put.ensures.cause; wrote = (c.as_bytes.result.now, file.output, c.in-Err-put.ensures.written) })
+    rw c.into_source-source.ensures (record { pages = file.asked; answers = record { opens = file.opens; file = file.file; sound = file.sound; cause = c.in-Err-put.ensures.cause; wrote = (c.as_bytes.result.now, file.output, c.in-Err-put.ensures.written) } })

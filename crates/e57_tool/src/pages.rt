@@ -1,0 +1,53 @@
+//! `pages FILE`
+
+ghost use Rattle.e57_tool.specs.Outside.{outside};
+ghost use Rattle.e57_tool.specs.FileAnswer.{ReadsFile};
+ghost use Rattle.e57_tool.specs.Run.{Keeps};
+ghost use Rattle.e57_tool.specs.Pages.{AsksInOrder, pages_answer, pages_promise};
+
+use crate::ending::Ending;
+use crate::lines::pages_line;
+use crate::opening::open_file;
+use e57_base::{ReadFault, RunFault, Sink, Source, Target};
+
+// Opens the file, tests each of its pages, and puts one line on `out`.
+fn scan_file<S: Source, O: Sink>(name: &str, source: S, out: &mut O) -> (S, Ending)
+    ensures { ReadsFile pages_answer AsksInOrder name.now (S.view source) (S.view result.0) (O.view out.old) (O.view out.new) result.1 }
+{
+    let mut pages = match open_file(name, source) {
+        Ok(pages) => pages,
+        Err((source, fault)) => return (source, Ending::Failed(fault)),
+    };
+    let header = *pages.header();
+    let count = match pages.scan() {
+        Ok(count) => count,
+        Err(fault) => match fault {
+            ReadFault::Refused(found) => {
+                return (
+                    pages.into_source(),
+                    Ending::Failed(RunFault::Refused(found)),
+                );
+            }
+            ReadFault::Source => return (pages.into_source(), Ending::Failed(RunFault::Source)),
+        },
+    };
+    let source = pages.into_source();
+    let line = pages_line(count, header.xml_place, header.xml_length);
+    match out.put(line.as_str().as_bytes()) {
+        Ok(()) => (source, Ending::Done),
+        Err(_) => (source, Ending::Failed(RunFault::Out)),
+    }
+}
+
+/// Opens the file, tests each of its pages, and puts one line on `out`. Takes no memory.
+pub fn test_pages<S: Source, T: Target, O: Sink>(
+    name: &str,
+    source: S,
+    target: T,
+    out: &mut O,
+) -> (S, T, Ending)
+    ensures { Keeps (pages_promise name.now) source result.0 target result.1 (outside (S.view source) (T.view target) (O.view out.old)) (outside (S.view result.0) (T.view result.1) (O.view out.new)) result.2 }
+{
+    let (source, ending) = scan_file(name, source, out);
+    (source, target, ending)
+}
