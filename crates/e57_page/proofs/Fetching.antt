@@ -10,7 +10,8 @@ use Rattle.e57_base.specs.declared.fault.ReadFault.{ReadFault}
 use Rattle.e57_base.specs.declared.kind.Kind.TheVariants.{Signature, Version, FileLength, PageSize, Page}
 use Rattle.e57_crc.specs.Crc.{is_right}
 use Rattle.e57_page.specs.declared.header.Header.{Header}
-use Rattle.e57_page.specs.Header.{fault, signature, major_version, minor_version, physical_length, page_size, header_fault, header_of}
+use Rattle.e57_base.specs.Fault.{fault}
+use Rattle.e57_page.specs.Header.{signature, major_version, minor_version, physical_length, page_size, header_fault, header_of}
 use Rattle.e57_page.specs.File.{length_fault, page_fault, pages_fault, opening_fault}
 use Rattle.e57_page.specs.FileLaws.{whole_length, page_fault-right, page_fault-wrong, header_fault-page, header_of-page, pages_fault-zero, pages_fault-more}
 use Rattle.e57_page.specs.Pages.{AsksFor, IsScanned, IsScannedTo, is_opening_kind}
@@ -133,7 +134,7 @@ pub scanned_more : (old mid new : SourceView) (n : ℕ) (page : List ℕ) → Is
 scanned_more old mid new n page scanned fetched =
     let asked = asks_for_on (range_with_len 0 n) (n ∷ []) scanned.source fetched.source in
     let held : new.held ≡ old.held = asked.same.held in
-    let right : IfSome new.held (λ file. page_fault file n ≡ None) = told_right new.held n page fetched.kept.bytes fetched.kept.right in
+    let right : IfSome new.held (λ file. page_fault file n ≡ None) = told_right new.held n page fetched.right_page.bytes fetched.right_page.right in
     record {
       source = subst (λ (ns : List ℕ). AsksFor old ns new) (rw zero-add at (numbers_more 0 n)) asked;
       right = told_more old.held n scanned.right (subst (λ (h : Option (List ℕ)). IfSome h (λ file. page_fault file n ≡ None)) held right);

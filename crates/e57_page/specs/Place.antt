@@ -14,7 +14,3 @@ span_end q n = if n == 0 then q / 1020 else (q + n - 1) / 1020 + 1
 abbrev pub RisesWithin : ℕ → ℕ → List ℕ → Type 0
 RisesWithin low high [] = Unit {0}
 RisesWithin low high (page ∷ pages) = (low ≤ page) × (page < high) × RisesWithin (page + 1) high pages
-
--- the first page from n on that a read asks for: the page that is kept isn't asked for again
-abbrev pub unless_kept : ℕ → ℕ → ℕ
-unless_kept kept n = if kept == n then n + 1 else n

@@ -1,10 +1,11 @@
-//! Pages of a source: asked for, tested, kept.
+//! Pages of a source: asked for and tested.
 
-ghost use Rattle.std.specs.Prelude.{◌≡◌, ◌≢◌, ◌/◌, ℕ, Some, None, length, MatchResult};
+ghost use Rattle.std.specs.Prelude.{◌≡◌, ◌/◌, ℕ, Some, None, MatchResult};
+ghost use Rattle.e57_base.specs.Fault.{fault};
 ghost use Rattle.e57_base.specs.Source.{HasPage};
 ghost use Rattle.e57_page.specs.File.{length_fault};
 ghost use Rattle.e57_page.specs.Pages.{IsOpened, IsNotOpened, IsScanned, IsScannedTo};
-ghost use Rattle.e57_page.specs.Fetch.{IsKept, IsFetched, IsNotFetched, AsksUnlessKept};
+ghost use Rattle.e57_page.specs.Fetch.{IsPage, IsFetched, IsNotFetched};
 
 use crate::header::Header;
 use e57_base::{Fault, Kind, ReadFault, Source};
@@ -28,13 +29,9 @@ pub fn fetch<S: Source>(source: &mut S, n: u64, page: &mut [u8; 1024]) -> Result
 
 /// The fault of page `n`.
 fn wrong_page(n: u64) -> ReadFault
-    ensures { result ≡ ReadFault.Refused (record { kind = Kind.Page; a = n; b = 0 }) }
+    ensures { result ≡ ReadFault.Refused (fault Kind.Page n 0) }
 {
-    ReadFault::Refused(Fault {
-        kind: Kind::Page,
-        a: n,
-        b: 0,
-    })
+    ReadFault::Refused(Fault::new(Kind::Page, n, 0))
 }
 
 /// Asks for page 0 of a file of `length` bytes, and judges its header and then its word. After a refusal `page` has
@@ -47,7 +44,7 @@ pub fn fetch_first<S: Source>(
     requires size { (S.view source.old).size ≡ Some length }
     requires whole { length_fault length ≡ None }
     ensures { MatchResult result
-        (λ header. IsOpened (S.view source.old) length length header (S.view source.new) × IsKept (S.view source.new) 0 page.new)
+        (λ header. IsOpened (S.view source.old) length length header (S.view source.new) × IsPage (S.view source.new) 0 page.new)
         (λ fault. IsNotOpened (S.view source.old) length fault (S.view source.new)) }
 {
     if let Err(_) = source.read_page(0, page) {
@@ -61,33 +58,6 @@ pub fn fetch_first<S: Source>(
         return Err(wrong_page(0));
     }
     Ok(header)
-}
-
-/// Keeps page `n`, and asks for it where it isn't kept already. After a refusal the page that was kept still is.
-pub fn keep<S: Source>(
-    source: &mut S,
-    n: u64,
-    number: &mut u64,
-    page: &mut [u8; 1024],
-) -> Result<(), ReadFault>
-    requires has { HasPage (S.view source.old) n }
-    requires kept { IsKept (S.view source.old) number.old page.old }
-    ensures long { length page.new ≡ 1024 }
-    ensures kept { IsKept (S.view source.new) number.new page.new }
-    ensures pages { MatchResult result
-        (λ _. (number.new ≡ n) × AsksUnlessKept (S.view source.old) number.old n (S.view source.new))
-        (λ fault. (number.old ≢ n) × IsNotFetched (S.view source.old) n fault (S.view source.new)) }
-{
-    if *number == n {
-        return Ok(());
-    }
-    let mut fresh = [0; 1024];
-    if let Err(fault) = fetch(source, n, &mut fresh) {
-        return Err(fault);
-    }
-    *number = n;
-    *page = fresh;
-    Ok(())
 }
 
 /// Asks for each page of a file of `length` bytes in order, and tests its word. Answers the number of pages.

@@ -5,7 +5,7 @@ use Rattle.std.specs.FinMap.{get}
 use Rattle.e57_base.specs.Source.{Stock, SourceView}
 use Rattle.e57_base.specs.Sink.{SinkView}
 use Rattle.e57_base.specs.declared.fault.Fault.{Fault}
-use Rattle.e57_base.specs.declared.fault.RunFault.TheVariants.{Refused, Source, Out, Memory}
+use Rattle.e57_base.specs.declared.fault.RunFault.TheVariants.{Refused, Source, Out, Memory, Ask}
 use Rattle.e57_tool.specs.declared.ending.Ending.{Ending}
 use Rattle.e57_tool.specs.declared.ending.Ending.TheVariants.{Done, RefusedOnOut, RefusedSecond, Failed}
 use Rattle.e57_tool.specs.Ending.{status_of}
@@ -35,6 +35,7 @@ done answer name before after (Failed (Refused found)) either ends ready calls =
 done answer name before after (Failed Source) either ends ready calls = absurd (calls.source_calls ends.cause)
 done answer name before after (Failed Out) either ends ready calls = absurd (calls.out_calls ends.cause)
 done answer name before after (Failed Memory) either ends ready calls = inr (ends.takes, refl)
+done answer name before after (Failed (Ask why)) either ends ready calls = absurd ends
 
 opened : {S : Type 0} (answer : FileAnswer) (name : List ℕ) (source source' : S) (old new : SourceView) (out out' : SinkView) (ending : Ending) → AnswersFile answer name old new out out' ending → CallsSource OneFile source source' old new (status_of ending)
 opened answer name source source' old new out out' Done ends = (ends.opens.opened, λ tells. ends.file.size)
@@ -44,6 +45,7 @@ opened answer name source source' old new out out' (Failed (Refused found)) ends
 opened answer name source source' old new out out' (Failed Source) ends = (ends.opens.opened, λ tells. absurd cc)
 opened answer name source source' old new out out' (Failed Out) ends = (ends.opens.opened, λ tells. absurd cc)
 opened answer name source source' old new out out' (Failed Memory) ends = (ends.opens.opened, λ tells. absurd cc)
+opened answer name source source' old new out out' (Failed (Ask why)) ends = absurd ends
 
 pub keeps : {S T : Type 0} (answer : FileAnswer) (rule : PageRule) (name : List ℕ) (source source' : S) (target : T) (before after : Outside) (ending : Ending) → IsEither answer → ReadsFile answer rule name before.source after.source before.out after.out ending → Keeps (reading answer rule name) source source' target target before after ending
 keeps answer rule name source source' target before after ending either reads =

@@ -1,4 +1,3 @@
-pub mod OpenedFile
 pub mod Asked
 pub mod Keeping
 pub mod Reading

@@ -7,6 +7,8 @@ use Rattle.e57_base.specs.Count.{rose_before}
 use Rattle.e57_base.specs.Source.{SourceView, Asks, asks_on}
 use Rattle.e57_base.specs.Sink.{SinkView}
 use Rattle.e57_base.specs.declared.fault.Fault.{Fault}
+use Rattle.e57_base.specs.Fault.{read_as_run}
+use Rattle.e57_base.specs.declared.fault.ReadFault.{ReadFault}
 use Rattle.e57_base.specs.declared.fault.ReadFault.TheVariants as read
 use Rattle.e57_base.specs.declared.fault.RunFault.{RunFault}
 use Rattle.e57_base.specs.declared.fault.RunFault.TheVariants.{Refused, Source, Out, Memory}
@@ -15,14 +17,14 @@ use Rattle.e57_page.specs.Header.{header_fault, header_of}
 use Rattle.e57_page.specs.File.{length_fault, page_fault, pages_fault, opening_fault}
 use Rattle.e57_page.specs.FileLaws.{pages_fault-found, pages_fault-zero, whole_length}
 use Rattle.e57_page.specs.Pages.{AsksFor, IsScanned, IsScannedTo, is_opening_kind}
-use Rattle.e57_file.specs.Told.{told_map, told_both, told_here}
+use Rattle.e57_base.specs.Told.{told_map, told_both, told_here}
 use Rattle.e57_tool.specs.declared.ending.Ending.TheVariants.{Failed}
 use Rattle.e57_tool.specs.Lines.{pages_line}
-use Rattle.e57_tool.specs.Opening.{OpensOnce, IsOpen, IsOpenedFile, IsUnopenedFile, AsksAtMostForFirst}
+use Rattle.e57_base.specs.Opening.{OpensOnce, IsOpen, opens_later, open_later}
+use Rattle.e57_page.specs.Opening.{IsOpenedFile, IsUnopenedFile, AsksAtMostForFirst}
 use Rattle.e57_tool.specs.PagesAsked.{StopsAtOpening}
 use Rattle.e57_tool.specs.FileAnswer.{ReadsFile}
 use Rattle.e57_tool.specs.Pages.{pages_verdict, IsPagesOutput, pages_answer, page_order, AsksInOrder}
-use Rattle.e57_tool.proofs.OpenedFile.{opens_later, open_later}
 use Rattle.e57_tool.proofs.Asked.{stops_before, stops_at_first, goes_on}
 
 -- no file has a fault and none
@@ -79,8 +81,8 @@ scan_asked : (old mid new : SourceView) (pages : List ℕ) → Asks old.asked (0
 scan_asked old mid new pages first then = asks_on old.asked mid.asked new.asked (0 ∷ []) pages first then.asked
 
 -- the scan went up to page n
-part_asked : (name : List ℕ) (old mid new : SourceView) (size kept n : ℕ) (header : Header) → IsOpenedFile name old size header kept mid → AsksFor mid (range_with_len 0 (n + 1)) new → n < size / 1024 → AsksForFirst old new
-part_asked name old mid new size kept n header opened scanned within =
+part_asked : (name : List ℕ) (old mid new : SourceView) (size n : ℕ) (header : Header) → IsOpenedFile name old size header mid → AsksFor mid (range_with_len 0 (n + 1)) new → n < size / 1024 → AsksForFirst old new
+part_asked name old mid new size n header opened scanned within =
     let is : new.size ≡ Some size = scanned.same.size ∙ opened.size_is in
     let these : take (suc (n + 1)) (0 ∷ range_with_len 0 (size / 1024)) ≡ 0 ∷ range_with_len 0 (n + 1) = ap (λ (xs : List ℕ). 0 ∷ xs) (take_range 0 (size / 1024) (n + 1) (omega arith)) in
     first_pages old new size (suc (n + 1)) (0 ∷ range_with_len 0 (n + 1)) is these
@@ -88,8 +90,8 @@ part_asked name old mid new size kept n header opened scanned within =
     (goes_on new (0 ∷ range_with_len 0 (n + 1)) size is opened.whole (told_here (λ file. opening_fault file ≡ None) mid.held new.held scanned.same.held opened.sound))
 
 -- the file was not opened
-pub unopened_pages : (name : List ℕ) (old new : SourceView) (out : SinkView) (fault : RunFault) → IsUnopenedFile name old fault new → ReadsFile pages_answer AsksInOrder name old new out out (Failed fault)
-unopened_pages name old new out (Refused found) refused =
+pub unopened_pages : (name : List ℕ) (old new : SourceView) (out : SinkView) (fault : ReadFault) → IsUnopenedFile name old fault new → ReadsFile pages_answer AsksInOrder name old new out out (Failed (read_as_run fault))
+unopened_pages name old new out (read.Refused found) refused =
     record {
       pages = unopened_asked old new refused.asked;
       answers = record {
@@ -100,20 +102,18 @@ unopened_pages name old new out (Refused found) refused =
         nothing = refl;
       };
     }
-unopened_pages name old new out Source lost = record { pages = unopened_asked old new lost.1; answers = record { opens = lost.0; cause = lost.2; nothing = refl } }
-unopened_pages name old new out Out never = absurd never
-unopened_pages name old new out Memory never = absurd never
+unopened_pages name old new out read.Source lost = record { pages = unopened_asked old new lost.asked; answers = record { opens = lost.opens; cause = lost.cause; nothing = refl } }
 
 -- a page that the scan finds wrong
-pub wrong_page : (name : List ℕ) (old mid new : SourceView) (out : SinkView) (size kept n : ℕ) (header : Header) (found : Fault) → IsOpenedFile name old size header kept mid → IsScannedTo mid (size / 1024) (read.Refused found) n new → ReadsFile pages_answer AsksInOrder name old new out out (Failed (Refused found))
-wrong_page name old mid new out size kept n header found opened scanned =
+wrong_page : (name : List ℕ) (old mid new : SourceView) (out : SinkView) (size n : ℕ) (header : Header) (found : Fault) → IsOpenedFile name old size header mid → IsScannedTo mid (size / 1024) (read.Refused found) n new → ReadsFile pages_answer AsksInOrder name old new out out (Failed (Refused found))
+wrong_page name old mid new out size n header found opened scanned =
     let same = scanned.source.same in
     let pages = told_both (λ file. (length file ≡ size) × (pages_fault file 0 n ≡ None)) (λ file. page_fault file n ≡ Some found) (λ file. pages_fault file 0 (length file / 1024) ≡ Some found) mid.held
     (λ file before at. pages_fault-found file 0 n (length file / 1024) found before.1 (rw zero-add at) (rw before.0 scanned.within))
     (told_both (λ file. length file ≡ size) (λ file. pages_fault file 0 n ≡ None) (λ file. (length file ≡ size) × (pages_fault file 0 n ≡ None)) mid.held (λ file is none. (is, none)) opened.long scanned.right)
     scanned.cause.1 in
     record {
-      pages = part_asked name old mid new size kept n header opened scanned.source scanned.within;
+      pages = part_asked name old mid new size n header opened scanned.source scanned.within;
       answers = record {
         opens = opens_later opened.opens same scanned.source.faults;
         file = open_later old mid new name opened.file same;
@@ -124,16 +124,21 @@ wrong_page name old mid new out size kept n header found opened scanned =
     }
 
 -- a page that the source fails to give
-pub lost_page : (name : List ℕ) (old mid new : SourceView) (out : SinkView) (size kept n : ℕ) (header : Header) → IsOpenedFile name old size header kept mid → IsScannedTo mid (size / 1024) read.Source n new → ReadsFile pages_answer AsksInOrder name old new out out (Failed Source)
-lost_page name old mid new out size kept n header opened scanned =
+lost_page : (name : List ℕ) (old mid new : SourceView) (out : SinkView) (size n : ℕ) (header : Header) → IsOpenedFile name old size header mid → IsScannedTo mid (size / 1024) read.Source n new → ReadsFile pages_answer AsksInOrder name old new out out (Failed Source)
+lost_page name old mid new out size n header opened scanned =
     record {
-      pages = part_asked name old mid new size kept n header opened scanned.source scanned.within;
+      pages = part_asked name old mid new size n header opened scanned.source scanned.within;
       answers = record {
         opens = opens_later opened.opens scanned.source.same scanned.source.faults;
         cause = rose_before old.faults mid.faults new.faults opened.opens.faults scanned.cause;
         nothing = refl;
       };
     }
+
+-- the page that stopped the scan
+pub stopped_at : (name : List ℕ) (old mid new : SourceView) (out : SinkView) (size n : ℕ) (header : Header) (fault : ReadFault) → IsOpenedFile name old size header mid → IsScannedTo mid (size / 1024) fault n new → ReadsFile pages_answer AsksInOrder name old new out out (Failed (read_as_run fault))
+stopped_at name old mid new out size n header (read.Refused found) opened scanned = wrong_page name old mid new out size n header found opened scanned
+stopped_at name old mid new out size n header read.Source opened scanned = lost_page name old mid new out size n header opened scanned
 
 -- What a scan of all pages says: the file has no fault, and the line is its output.
 pub record IsScannedFile (name : List ℕ) (old : SourceView) (text : List ℕ) (new : SourceView) : Type 0 where
@@ -143,8 +148,8 @@ pub record IsScannedFile (name : List ℕ) (old : SourceView) (text : List ℕ) 
   pub sound : IfSome new.held pages_answer.is_sound
   pub output : IfSome new.held (λ file. IsPagesOutput file text)
 
-pub scanned_file : (name : List ℕ) (old mid new : SourceView) (size kept count : ℕ) (header : Header) (text : List ℕ) → IsOpenedFile name old size header kept mid → IsScanned mid count new → count ≡ size / 1024 → text ≡ pages_line count header.xml_place header.xml_length → IsScannedFile name old text new
-scanned_file name old mid new size kept count header text opened scanned counted written =
+pub scanned_file : (name : List ℕ) (old mid new : SourceView) (size count : ℕ) (header : Header) (text : List ℕ) → IsOpenedFile name old size header mid → IsScanned mid count new → count ≡ size / 1024 → text ≡ pages_line count header.xml_place header.xml_length → IsScannedFile name old text new
+scanned_file name old mid new size count header text opened scanned counted written =
     let same = scanned.source.same in
     let order : page_order new.size ≡ 0 ∷ range_with_len 0 count = ap page_order (same.size ∙ opened.size_is) ∙ ap (λ (n : ℕ). 0 ∷ range_with_len 0 n) (sym counted) in
     let pages = told_both (λ file. length file ≡ size) (λ file. pages_fault file 0 count ≡ None) (λ file. pages_fault file 0 (length file / 1024) ≡ None) mid.held (λ file is right. rw (is, ← counted) right) opened.long scanned.right in

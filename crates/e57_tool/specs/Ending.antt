@@ -3,12 +3,12 @@ use Rattle.std.specs.Prelude.{◌≡◌, ◌⊎◌, ℕ, List, Option, Some, Non
 use Rattle.e57_base.specs.Count.{Rose}
 use Rattle.e57_base.specs.Sink.{SinkView, Grows, GrowsByFront}
 use Rattle.e57_base.specs.declared.fault.RunFault.{RunFault}
-use Rattle.e57_base.specs.declared.fault.RunFault.TheVariants.{Refused, Source, Out, Memory}
+use Rattle.e57_base.specs.declared.fault.RunFault.TheVariants.{Refused, Source, Out, Memory, Ask}
 use Rattle.e57_tool.specs.declared.ending.Ending.{Ending}
 use Rattle.e57_tool.specs.declared.ending.Ending.TheVariants.{Done, RefusedOnOut, RefusedSecond, Failed}
 use Rattle.e57_tool.specs.declared.status.Status.{Status}
 use Rattle.e57_tool.specs.declared.status.Status.TheVariants as status
-use Rattle.e57_tool.specs.Lines.{refused_line, second_line, source_line, out_line, memory_line}
+use Rattle.e57_tool.specs.Lines.{refused_line, second_line, ask_line, source_line, out_line, memory_line}
 
 -- the status of a fault
 abbrev pub fault_status : RunFault → Status
@@ -16,6 +16,7 @@ fault_status (Refused found) = status.Refused
 fault_status Source = status.SourceFault
 fault_status Out = status.OutFault
 fault_status Memory = status.Memory
+fault_status (Ask why) = status.AskRefused
 
 abbrev pub status_of : Ending → Status
 status_of Done = status.Done
@@ -29,6 +30,7 @@ fault_line (Refused found) = refused_line found
 fault_line Source = source_line
 fault_line Out = out_line
 fault_line Memory = memory_line
+fault_line (Ask why) = ask_line why
 
 -- the line on `err`, none where there is nothing to say there
 abbrev pub line_of : Ending → Option (List ℕ)

@@ -3,14 +3,14 @@ use Rattle.std.specs.Prelude.{◌≡◌, ℕ, List, Bool, false, IsTrue, Option,
 use Rattle.std.specs.FinMap.{get}
 use Rattle.e57_base.specs.Count.{Rose}
 use Rattle.e57_base.specs.Source.{SourceView}
+use Rattle.e57_base.specs.Opening.{OpensOnce, IsOpen}
 use Rattle.e57_base.specs.Sink.{SinkView, Grows, GrowsByFront}
 use Rattle.e57_base.specs.declared.fault.Fault.{Fault}
-use Rattle.e57_base.specs.declared.fault.RunFault.TheVariants.{Refused, Source, Out, Memory}
+use Rattle.e57_base.specs.declared.fault.RunFault.TheVariants.{Refused, Source, Out, Memory, Ask}
 use Rattle.e57_base.specs.declared.kind.Kind.{Kind}
 use Rattle.e57_tool.specs.declared.ending.Ending.{Ending}
 use Rattle.e57_tool.specs.declared.ending.Ending.TheVariants.{Done, RefusedOnOut, RefusedSecond, Failed}
 use Rattle.e57_tool.specs.Outside.{Outside}
-use Rattle.e57_tool.specs.Opening.{OpensOnce, IsOpen}
 use Rattle.e57_tool.specs.Run.{Promise, OneFile}
 
 -- what a command answers of a file
@@ -70,6 +70,7 @@ AnswersFile answer name old new out out' (Failed (Refused found)) = FindsFault a
 AnswersFile answer name old new out out' (Failed Source) = LosesSource name old new out out'
 AnswersFile answer name old new out out' (Failed Out) = LosesOut answer name old new out out'
 AnswersFile answer name old new out out' (Failed Memory) = RunsOut answer name old new out out'
+AnswersFile answer name old new out out' (Failed (Ask why)) = ⊥
 
 -- the file that a told stock has under a name
 abbrev pub stocked : SourceView → List ℕ → Option (List ℕ)

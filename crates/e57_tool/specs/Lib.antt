@@ -5,7 +5,6 @@ pub mod Status
 pub mod Ending
 pub mod Outside
 pub mod Run
-pub mod Opening
 pub mod PagesAsked
 pub mod FileAnswer
 pub mod Text

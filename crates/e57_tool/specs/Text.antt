@@ -2,7 +2,7 @@
 use Rattle.std.specs.Prelude.{ℕ, List, ◌++◌, false, codes}
 use Rattle.e57_base.specs.Count.{Rose}
 use Rattle.e57_base.specs.Sink.{Grows, GrowsByFront}
-use Rattle.e57_base.specs.declared.fault.RunFault.TheVariants.{Refused, Source, Out, Memory}
+use Rattle.e57_base.specs.declared.fault.RunFault.TheVariants.{Refused, Source, Out, Memory, Ask}
 use Rattle.e57_tool.specs.declared.ending.Ending.{Ending}
 use Rattle.e57_tool.specs.declared.ending.Ending.TheVariants.{Done, RefusedOnOut, RefusedSecond, Failed}
 use Rattle.e57_tool.specs.Outside.{Outside}
@@ -35,6 +35,7 @@ PutsText text before after (Failed (Refused found)) = ⊥
 PutsText text before after (Failed Source) = ⊥
 PutsText text before after (Failed Out) = Rose before.out.faults after.out.faults × GrowsByFront before.out.written text after.out.written
 PutsText text before after (Failed Memory) = ⊥
+PutsText text before after (Failed (Ask why)) = ⊥
 
 -- what a command promises that puts this text
 abbrev pub putting : List ℕ → Promise

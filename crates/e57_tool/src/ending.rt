@@ -3,7 +3,7 @@
 ghost use Rattle.std.specs.Prelude.{◌≡◌, Some, None, MatchOption};
 ghost use Rattle.e57_tool.specs.Ending.{status_of, line_of, fault_status, fault_line};
 
-use crate::lines::{Line, refused_line, second_line, text_line};
+use crate::lines::{Line, ask_line, refused_line, second_line, text_line};
 use crate::status::Status;
 use e57_base::{Fault, RunFault};
 
@@ -54,6 +54,7 @@ fn fault_status(fault: &RunFault) -> Status
         RunFault::Source => Status::SourceFault,
         RunFault::Out => Status::OutFault,
         RunFault::Memory => Status::Memory,
+        RunFault::Ask(_) => Status::AskRefused,
     }
 }
 
@@ -65,5 +66,6 @@ fn fault_line(fault: &RunFault) -> Line
         RunFault::Source => text_line("source fault\n"),
         RunFault::Out => text_line("output fault\n"),
         RunFault::Memory => text_line("out of memory\n"),
+        RunFault::Ask(why) => ask_line(why),
     }
 }

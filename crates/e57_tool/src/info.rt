@@ -6,8 +6,8 @@ ghost use Rattle.e57_tool.specs.Run.{Keeps};
 ghost use Rattle.e57_tool.specs.Info.{info_rule, info_answer, info_promise};
 
 use crate::ending::Ending;
-use crate::opening::open_file;
-use e57_base::{Sink, Source, Target};
+use e57_base::{RunFault, Sink, Source, Target};
+use e57_page::open_file;
 use e57_show::info;
 use std::alloc::Global;
 
@@ -17,7 +17,7 @@ fn show_file<S: Source, O: Sink>(alloc: Global, name: &str, source: S, out: &mut
 {
     let mut pages = match open_file(name, source) {
         Ok(pages) => pages,
-        Err((source, fault)) => return (source, Ending::Failed(fault)),
+        Err((source, fault)) => return (source, Ending::Failed(RunFault::from(fault))),
     };
     match info(alloc, &mut pages, out) {
         Ok(()) => (pages.into_source(), Ending::Done),

@@ -6,7 +6,6 @@ mod cursor;
 mod ending;
 mod info;
 mod lines;
-mod opening;
 mod pages;
 mod program;
 mod status;

@@ -7,8 +7,8 @@ ghost use Rattle.e57_tool.specs.Pages.{AsksInOrder, pages_answer, pages_promise}
 
 use crate::ending::Ending;
 use crate::lines::pages_line;
-use crate::opening::open_file;
-use e57_base::{ReadFault, RunFault, Sink, Source, Target};
+use e57_base::{RunFault, Sink, Source, Target};
+use e57_page::open_file;
 
 // Opens the file, tests each of its pages, and puts one line on `out`.
 fn scan_file<S: Source, O: Sink>(name: &str, source: S, out: &mut O) -> (S, Ending)
@@ -16,20 +16,12 @@ fn scan_file<S: Source, O: Sink>(name: &str, source: S, out: &mut O) -> (S, Endi
 {
     let mut pages = match open_file(name, source) {
         Ok(pages) => pages,
-        Err((source, fault)) => return (source, Ending::Failed(fault)),
+        Err((source, fault)) => return (source, Ending::Failed(RunFault::from(fault))),
     };
     let header = *pages.header();
     let count = match pages.scan() {
         Ok(count) => count,
-        Err(fault) => match fault {
-            ReadFault::Refused(found) => {
-                return (
-                    pages.into_source(),
-                    Ending::Failed(RunFault::Refused(found)),
-                );
-            }
-            ReadFault::Source => return (pages.into_source(), Ending::Failed(RunFault::Source)),
-        },
+        Err(fault) => return (pages.into_source(), Ending::Failed(RunFault::from(fault))),
     };
     let source = pages.into_source();
     let line = pages_line(count, header.xml_place, header.xml_length);

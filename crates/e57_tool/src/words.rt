@@ -1,7 +1,7 @@
 //! What the words of a command line ask for.
 
 ghost use Rattle.std.specs.Prelude.{◌≡◌, Ok, Err, map, string_bytes, MatchResult};
-ghost use Rattle.e57_tool.specs.Cursor.{unread_from};
+ghost use Rattle.e57_tool.specs.Cursor.{unread_from, at_end};
 ghost use Rattle.e57_tool.specs.Words.{ask_of, command_ask, command_of, only_place};
 
 use crate::cursor::{Cursor, WordFault};
@@ -30,6 +30,16 @@ fn only_place(mut words: Cursor<'_>) -> Result<&str, WordFault>
     Ok(file)
 }
 
+// A command that has no place, and no word behind it.
+fn no_place<'a>(ask: Ask<'a>, words: Cursor<'a>) -> Result<Ask<'a>, WordFault>
+    ensures { MatchResult result
+        (λ given. at_end (command_of ask.entry) (unread_from words.entry.next (map string_bytes words.entry.words.now)) ≡ Ok (command_of given))
+        (λ fault. at_end (command_of ask.entry) (unread_from words.entry.next (map string_bytes words.entry.words.now)) ≡ Err fault.at) }
+{
+    words.end()?;
+    Ok(ask)
+}
+
 // What a command with the words behind it asks for.
 #[tactic(auto, unfolding(crate::specs::Words::command_ask))]
 fn read_command<'a>(command: &str, words: Cursor<'a>) -> Result<Ask<'a>, WordFault>
@@ -38,14 +48,8 @@ fn read_command<'a>(command: &str, words: Cursor<'a>) -> Result<Ask<'a>, WordFau
         (λ fault. command_ask command.now (unread_from words.entry.next (map string_bytes words.entry.words.now)) ≡ Err fault.at) }
 {
     match command {
-        "--help" => {
-            words.end()?;
-            Ok(Ask::Help)
-        }
-        "--version" => {
-            words.end()?;
-            Ok(Ask::Version)
-        }
+        "--help" => no_place(Ask::Help, words),
+        "--version" => no_place(Ask::Version, words),
         "pages" => Ok(Ask::Pages(only_place(words)?)),
         "info" => Ok(Ask::Info(only_place(words)?)),
         _ => Err(WordFault { at: 0 }),

@@ -1,20 +1,27 @@
-use Rattle.e57_tool.proofs.Showing.{unopened_info, shown_file, failed_info}
+use Rattle.e57_tool.proofs.Showing.{unopened_info, text_asked, shown_file, failed_info}
 use Rattle.e57_tool.proofs.info.show_file.Goals as goal
 
 pub returns-in-Err : goal.returns-in-Err
-returns-in-Err g c = unopened_info c.args.name.now (g.S.Source.view c.args.source) (g.S.Source.view c.in-Err.source) (g.O.Sink.view c.args.out.now) c.in-Err.fault c.in-Err.ensures
+returns-in-Err g c = rw c.from.ensures (unopened_info c.args.name.now (g.S.Source.view c.args.source) (g.S.Source.view c.in-Err.source) (g.O.Sink.view c.args.out.now) c.in-Err.fault c.in-Err.ensures.opened)
 
 pub returns-in-Ok-info : goal.returns-in-Ok-info
 returns-in-Ok-info g c =
     let view = g.S.Source.view in
-    let opened = c.in-Ok.pages in
-    let ends = c.in-Ok-info.ensures.ends in
-    let file = shown_file c.args.name.now (view c.args.source) (view opened.source) (view c.info.new.pages.source) opened.length opened.kept opened.header ends.0 c.in-Ok.ensures ends.1 in
-    rw c.into_source.ensures (record { pages = file.asked; answers = record { opens = file.opens; file = file.file; sound = file.sound; wrote = (ends.0, file.output, ends.2) } })
+    let old = view c.args.source in
+    let before = c.in-Ok.pages in
+    let after = c.info.new.pages in
+    let ends = c.in-Ok-info.ensures in
+    let pages = text_asked view c.args.name.now old before after c.info.result c.in-Ok.ensures.opened c.in-Ok.ensures.kept c.info.ensures.place c.info.ensures.asked in
+    let file = shown_file c.args.name.now old (view before.source) (view after.source) before.length before.header ends.ends.0 ends.asked.0 c.in-Ok.ensures.opened ends.asked.3 ends.ends.1 in
+    rw c.into_source.ensures (record { pages = pages; answers = record { opens = file.opens; file = file.file; sound = file.sound; wrote = (ends.ends.0, file.output, ends.ends.2) } })
 
 pub returns-in-Err-info : goal.returns-in-Err-info
 returns-in-Err-info g c =
     let view = g.S.Source.view in
-    let opened = c.in-Ok.pages in
+    let old = view c.args.source in
+    let before = c.in-Ok.pages in
+    let after = c.info.new.pages in
+    let ends = c.in-Err-info.ensures in
+    let pages = text_asked view c.args.name.now old before after c.info.result c.in-Ok.ensures.opened c.in-Ok.ensures.kept c.info.ensures.place c.info.ensures.asked in
     rw c.into_source-in-Err-info.ensures
-    (failed_info c.args.name.now (view c.args.source) (view opened.source) (view c.info.new.pages.source) (g.O.Sink.view c.args.out.now) (g.O.Sink.view c.info.new.out) opened.length opened.kept opened.header c.in-Err-info.fault c.in-Ok.ensures c.in-Err-info.ensures.ends)
+    (failed_info view c.args.name.now old before after (g.O.Sink.view c.args.out.now) (g.O.Sink.view c.info.new.out) c.in-Err-info.fault c.in-Ok.ensures.opened ends.asked ends.place pages ends.ends)
