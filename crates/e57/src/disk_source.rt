@@ -2,9 +2,10 @@
 
 ghost use Rattle.std.specs.Prelude.{None};
 
+use crate::read_ahead::ReadAhead;
 use e57_base::{Failed, Source};
+use std::alloc::Global;
 use std::fs::{File, OpenFile};
-use std::os::unix::fs::FileExt;
 use std::rt::Files;
 use std::{fs, io};
 
@@ -13,16 +14,19 @@ use std::{fs, io};
 pub struct DiskSource<'a, R: Files<File = File>> {
     files: &'a R,
     file: Option<File>,
+    ahead: ReadAhead,
     size: Option<u64>,
     opened: u64,
     faults: u64,
 }
 
 impl<'a, R: Files<File = File>> DiskSource<'a, R> {
-    pub fn new(files: &'a R) -> Self {
+    /// No file is open. Memory is taken for 64 pages that are read ahead; without it each page is read by itself.
+    pub fn new(alloc: Global, files: &'a R) -> Self {
         DiskSource {
             files,
             file: None,
+            ahead: ReadAhead::new(alloc),
             size: None,
             opened: 0,
             faults: 0,
@@ -47,6 +51,7 @@ impl<R: Files<File = File>> Source for DiskSource<'_, R> {
 
     fn open(&mut self, name: &str) -> Result<u64, Failed> {
         self.opened = self.opened.saturating_add(1);
+        self.ahead.forget();
         match open_file(self.files, name) {
             Ok((file, size)) => {
                 self.file = Some(file);
@@ -63,9 +68,9 @@ impl<R: Files<File = File>> Source for DiskSource<'_, R> {
     }
 
     fn read_page(&mut self, n: u64, out: &mut [u8; 1024]) -> Result<(), Failed> {
-        let is_read = match (&self.file, n.checked_mul(1024)) {
-            (Some(file), Some(at)) => file.read_exact_at(out, at).is_ok(),
-            _ => false,
+        let is_read = match &self.file {
+            Some(file) => self.ahead.read(file, n, out),
+            None => false,
         };
         if is_read {
             return Ok(());
