@@ -88,10 +88,8 @@ fn each_command_line_ends_as_it_should(rt: HostRuntime) -> Result<(), Fail> {
     let alloc = rt.alloc();
     for (words, content, status, out, err, asked) in &CASES {
         let ended = run_on(alloc, words, bytes_of(alloc, *content)?)?;
-        assert_eq!(rt; ended.status, *status, "{err}");
-        assert_eq!(rt; ended.out.bytes(), out.as_bytes(), "{err}");
-        assert_eq!(rt; ended.err.bytes(), err.as_bytes(), "{err}");
-        assert_eq!(rt; ended.source.asked(), *asked, "{err}");
+        let is_so = ended.is(*status, out.as_bytes(), err.as_bytes()) && ended.asked_for(asked);
+        assert!(rt; is_so, "{out}{err}");
     }
     Ok(())
 }
@@ -101,11 +99,10 @@ fn each_command_line_ends_as_it_should(rt: HostRuntime) -> Result<(), Fail> {
 fn info_puts_the_written_spelling(rt: HostRuntime) -> Result<(), Fail> {
     let alloc = rt.alloc();
     let ended = run_on(alloc, &["info", "scan"], three_records(alloc)?)?;
-    assert_eq!(rt; ended.status.code(), 0);
     let mut shown = THREE_RECORDS_TEXT.as_bytes().to_vec(alloc)?;
     shown.push(b'\n')?;
-    assert_eq!(rt; ended.out.bytes(), shown.as_slice());
-    assert_eq!(rt; ended.source.asked(), [0, 2].as_slice());
+    assert!(rt; ended.is(Status::Done, &shown, b""));
+    assert!(rt; ended.asked_for(&[0, 2]));
     Ok(())
 }
 
@@ -124,15 +121,10 @@ fn each_failed_call_of_the_source_is_a_source_fault(rt: HostRuntime) -> Result<(
             let mut source = source_of(alloc, three_records(alloc)?)?;
             source.fail_at(call as u64)?;
             let ended = run_words(alloc, words, source, room(alloc)?, room(alloc)?)?;
-            assert_eq!(rt; ended.status, Status::SourceFault, "call {call}");
-            assert_eq!(rt; ended.out.bytes(), b"".as_slice(), "call {call}");
-            assert_eq!(rt;
-                ended.err.bytes(),
-                b"source fault\n".as_slice(),
-                "call {call}"
-            );
             let (front, _) = asked.split_at(call);
-            assert_eq!(rt; ended.source.asked(), front, "call {call}");
+            let is_so =
+                ended.is(Status::SourceFault, b"", b"source fault\n") && ended.asked_for(front);
+            assert!(rt; is_so, "call {call}");
         }
     }
     Ok(())
@@ -151,28 +143,24 @@ fn a_failed_put_is_an_output_fault(rt: HostRuntime) -> Result<(), Fail> {
     for words in &PUTTING {
         let source = source_of(alloc, three_records(alloc)?)?;
         let ended = run_words(alloc, words, source, failing_sink(alloc)?, room(alloc)?)?;
-        assert_eq!(rt; ended.status.code(), 4);
-        assert_eq!(rt; ended.out.bytes(), b"".as_slice());
-        assert_eq!(rt; ended.err.bytes(), b"output fault\n".as_slice());
+        assert!(rt; ended.is(Status::OutFault, b"", b"output fault\n"));
     }
     Ok(())
 }
+
+const FAILING: [(&[&str], Status); 2] = [
+    (&["pages", "absent"], Status::SourceFault),
+    (&["pages", "--x"], Status::WordsFault),
+];
 
 // A line that can't be put changes nothing else.
 #[test]
 fn a_failed_line_keeps_the_status(rt: HostRuntime) -> Result<(), Fail> {
     let alloc = rt.alloc();
-    for (words, status) in [(["pages", "absent"], 3), (["pages", "--x"], 2)] {
+    for (words, status) in &FAILING {
         let source = source_of(alloc, three_records(alloc)?)?;
-        let ended = run_words(
-            alloc,
-            words.as_slice(),
-            source,
-            room(alloc)?,
-            failing_sink(alloc)?,
-        )?;
-        assert_eq!(rt; ended.status.code(), status);
-        assert_eq!(rt; ended.err.bytes(), b"".as_slice());
+        let ended = run_words(alloc, words, source, room(alloc)?, failing_sink(alloc)?)?;
+        assert!(rt; ended.is(*status, b"", b""));
     }
     Ok(())
 }

@@ -51,9 +51,7 @@ fn info_shows_the_tree_or_its_first_fault(rt: HostRuntime) -> Result<(), Fail> {
     for (text, status, out, err) in &TEXTS {
         let bytes = file_of_text(alloc, text, 1024, text.len() as u64)?;
         let ended = run_on(alloc, &["info", "scan"], bytes)?;
-        assert_eq!(rt; ended.status, *status, "{err}");
-        assert_eq!(rt; ended.out.bytes(), out.as_bytes(), "{err}");
-        assert_eq!(rt; ended.err.bytes(), err.as_bytes(), "{err}");
+        assert!(rt; ended.is(*status, out.as_bytes(), err.as_bytes()), "{out}{err}");
     }
     Ok(())
 }
@@ -68,8 +66,7 @@ fn info_refuses_a_tree_that_is_too_deep(rt: HostRuntime) -> Result<(), Fail> {
     }
     let bytes = file_of_text(alloc, &text, 1024, text.len() as u64)?;
     let ended = run_on(alloc, &["info", "scan"], bytes)?;
-    assert_eq!(rt; ended.status, Status::Refused);
-    assert_eq!(rt; ended.err.bytes(), b"refused TreeLimit 1286 2\n".as_slice());
+    assert!(rt; ended.is(Status::Refused, b"", b"refused TreeLimit 1286 2\n"));
     Ok(())
 }
 
@@ -90,10 +87,8 @@ fn info_judges_the_place_of_the_section(rt: HostRuntime) -> Result<(), Fail> {
         let text = vec![in alloc; 32; 2000]?;
         let bytes = changed(file_of_text(alloc, &text, *place, *length)?, 2100);
         let ended = run_on(alloc, &["info", "scan"], bytes)?;
-        assert_eq!(rt; ended.status, Status::Refused, "{err}");
-        assert_eq!(rt; ended.out.bytes(), b"".as_slice(), "{err}");
-        assert_eq!(rt; ended.err.bytes(), err.as_bytes(), "{err}");
-        assert_eq!(rt; ended.source.asked(), *asked, "{err}");
+        let is_so = ended.is(Status::Refused, b"", err.as_bytes()) && ended.asked_for(asked);
+        assert!(rt; is_so, "{err}");
     }
     Ok(())
 }
@@ -114,9 +109,8 @@ fn info_judges_the_length_of_the_section(rt: HostRuntime) -> Result<(), Fail> {
         let mut bytes = file(alloc, &first, WordOrder::MostSignificantFirst)?;
         bytes.resize(pages.wrapping_mul(1024) as usize, 0)?;
         let ended = run_on(alloc, &["info", "scan"], bytes)?;
-        assert_eq!(rt; ended.status, Status::Refused, "{err}");
-        assert_eq!(rt; ended.err.bytes(), err.as_bytes(), "{err}");
-        assert_eq!(rt; ended.source.asked(), [0].as_slice(), "{err}");
+        let is_so = ended.is(Status::Refused, b"", err.as_bytes()) && ended.asked_for(&[0]);
+        assert!(rt; is_so, "{err}");
     }
     Ok(())
 }

@@ -13,6 +13,18 @@ pub struct Ended {
     pub err: MemSink,
 }
 
+impl Ended {
+    /// The run ended with this status, this output and this line on `err`.
+    pub fn is(&self, status: Status, out: &[u8], err: &[u8]) -> bool {
+        self.status == status && self.out.bytes() == out && self.err.bytes() == err
+    }
+
+    /// The run asked for these pages, in this order.
+    pub fn asked_for(&self, pages: &[u64]) -> bool {
+        self.source.asked() == pages
+    }
+}
+
 /// Room for the output of a run and for its pages.
 pub const ROOM: usize = 1000;
 

@@ -23,7 +23,8 @@ use Rattle.e57_page.specs.Pages.{Reading, AsksFor, AsksUnkept, is_opening_kind}
 use Rattle.e57_page.specs.PagesLaws.{asks_for_none, asks_unkept_from}
 use Rattle.e57_page.specs.XmlSection.{xml_start, xml_span_fault}
 use Rattle.e57_file.specs.Text.{IsTextFault, AsksForXml, is_text_kind}
-use Rattle.e57_show.specs.Info.{InfoEnds, ShowsText, HasNoTextFault, IsShown, IsPastPlaceFirst, JudgesPlaceFirst}
+use Rattle.e57_show.specs.Info.{InfoEnds, ShowsText, HasNoTextFault, IsShown}
+use Rattle.e57_show.specs.Opening.{IsPastPlace, JudgesPlaceFirst}
 use Rattle.e57_tool.specs.declared.ending.Ending.TheVariants.{Failed}
 use Rattle.e57_tool.specs.PagesAsked.{StopsAtOpening}
 use Rattle.e57_tool.specs.FileAnswer.{ReadsFile}
@@ -128,15 +129,17 @@ section_asked name old mid new size header kept opened keeps placed asked =
     }
 
 -- page 0 was asked for, and no other where the section has no place
-pub text_asked : {S T : Type 0} (view : S → SourceView) (name : List ℕ) (old : SourceView) (before after : Reading S) (result : Result T RunFault) → IsOpenedFile name old before.length before.header (view before.source) → KeepsFirst before.kept → JudgesPlaceFirst before result after → AsksForXml before (view before.source) (view after.source) → AsksForText old (view after.source)
-text_asked view name old before after result opened keeps judged asked = elim (xml_span_fault before.header (before.length / 1024 * 1020)) as (λ (o : Option Fault). xml_span_fault before.header (before.length / 1024 * 1020) ≡ o → MatchOption o (IfErr result IsPastPlaceFirst) (λ found. (result ≡ Err (Refused found)) × (after ≡ before)) → AsksForText old (view after.source)) [
+pub text_asked : {S T : Type 0} (view : S → SourceView) (name : List ℕ) (old : SourceView) (before after : Reading S) (out out' : SinkView) (result : Result T RunFault) → IsOpenedFile name old before.length before.header (view before.source) → KeepsFirst before.kept → JudgesPlaceFirst before out result after out' → AsksForXml before (view before.source) (view after.source) → AsksForText old (view after.source)
+text_asked {S} view name old before after out out' result opened keeps judged asked = elim (xml_span_fault before.header (before.length / 1024 * 1020)) as (λ (o : Option Fault). xml_span_fault before.header (before.length / 1024 * 1020) ≡ o → MatchOption o (IfErr result IsPastPlace) (λ found. (result ≡ Err (Refused found)) × (after ≡ before) × (out' ≡ out)) → AsksForText old (view after.source)) [
   | None ↦ λ none past. section_asked name old (view before.source) (view after.source) before.length before.header before.kept opened keeps none asked
   | Some found ↦ λ some refused. subst (λ (r : Reading S). AsksForText old (view r.source)) (sym refused.1) (first_asked old (view before.source) opened.asked (stops_at_first (view before.source) before.length opened.size_is opened.whole))
 ] refl judged
 
 -- memory ran out, so the section has its place
-placed : {S T : Type 0} (before after : Reading S) → JudgesPlaceFirst {T = T} before (Err Memory) after → xml_span_fault before.header (before.length / 1024 * 1020) ≡ None
-placed {S} {T} before after judged = elim (xml_span_fault before.header (before.length / 1024 * 1020)) as (λ (o : Option Fault). MatchOption o (IfErr {T = T} (Err Memory) IsPastPlaceFirst) (λ found. (Err {T = T} Memory ≡ Err (Refused found)) × (after ≡ before)) → o ≡ None) [
+placed : {S T : Type 0} (before after : Reading S) (out out' : SinkView) → JudgesPlaceFirst {T = T} before out (Err Memory) after out' → xml_span_fault before.header (before.length / 1024 * 1020) ≡ None
+placed {S} {T} before after out out' judged =
+    let memory : Result T RunFault = Err Memory in
+    elim (xml_span_fault before.header (before.length / 1024 * 1020)) as (λ (o : Option Fault). MatchOption o (IfErr memory IsPastPlace) (λ found. (memory ≡ Err (Refused found)) × (after ≡ before) × (out' ≡ out)) → o ≡ None) [
   | None ↦ λ past. refl
   | Some found ↦ λ refused. absurd (let clash = refused.0 in cc)
 ] judged
@@ -162,7 +165,7 @@ shown_file name old mid new size header text rest opened asks shows =
     }
 
 -- the text has a fault, or a call failed
-pub failed_info : {S T : Type 0} (view : S → SourceView) (name : List ℕ) (old : SourceView) (before after : Reading S) (out out' : SinkView) (fault : RunFault) → IsOpenedFile name old before.length before.header (view before.source) → AsksForXml before (view before.source) (view after.source) → JudgesPlaceFirst {T = T} before (Err fault) after → AsksForText old (view after.source) → InfoEnds (view before.source) (view after.source) out out' (Some fault) → ReadsFile info_answer info_rule name old (view after.source) out out' (Failed fault)
+pub failed_info : {S T : Type 0} (view : S → SourceView) (name : List ℕ) (old : SourceView) (before after : Reading S) (out out' : SinkView) (fault : RunFault) → IsOpenedFile name old before.length before.header (view before.source) → AsksForXml before (view before.source) (view after.source) → JudgesPlaceFirst {T = T} before out (Err fault) after out' → AsksForText old (view after.source) → InfoEnds (view before.source) (view after.source) out out' (Some fault) → ReadsFile info_answer info_rule name old (view after.source) out out' (Failed fault)
 failed_info view name old before after out out' (Refused found) opened asked judged pages (kind, first, nothing) =
     let asks = asked.3 in
     let mid = view before.source in
@@ -193,7 +196,7 @@ failed_info {T = T} view name old before after out out' Memory opened asked judg
     let asks = asked.3 in
     let mid = view before.source in
     let new = view after.source in
-    let place = place_told mid before.length before.header None opened.long opened.read (placed {T = T} before after judged) in
+    let place = place_told mid before.length before.header None opened.long opened.read (placed {T = T} before after out out' judged) in
     record {
       pages = pages;
       answers = record {

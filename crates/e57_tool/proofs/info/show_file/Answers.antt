@@ -11,7 +11,7 @@ returns-in-Ok-info g c =
     let before = c.in-Ok.pages in
     let after = c.info.new.pages in
     let ends = c.in-Ok-info.ensures in
-    let pages = text_asked view c.args.name.now old before after c.info.result c.in-Ok.ensures.opened c.in-Ok.ensures.kept c.info.ensures.place c.info.ensures.asked in
+    let pages = text_asked view c.args.name.now old before after (g.O.Sink.view c.args.out.now) (g.O.Sink.view c.info.new.out) c.info.result c.in-Ok.ensures.opened c.in-Ok.ensures.kept c.info.ensures.place c.info.ensures.asked in
     let file = shown_file c.args.name.now old (view before.source) (view after.source) before.length before.header ends.ends.0 ends.asked.0 c.in-Ok.ensures.opened ends.asked.3 ends.ends.1 in
     rw c.into_source.ensures (record { pages = pages; answers = record { opens = file.opens; file = file.file; sound = file.sound; wrote = (ends.ends.0, file.output, ends.ends.2) } })
 
@@ -22,6 +22,6 @@ returns-in-Err-info g c =
     let before = c.in-Ok.pages in
     let after = c.info.new.pages in
     let ends = c.in-Err-info.ensures in
-    let pages = text_asked view c.args.name.now old before after c.info.result c.in-Ok.ensures.opened c.in-Ok.ensures.kept c.info.ensures.place c.info.ensures.asked in
+    let pages = text_asked view c.args.name.now old before after (g.O.Sink.view c.args.out.now) (g.O.Sink.view c.info.new.out) c.info.result c.in-Ok.ensures.opened c.in-Ok.ensures.kept c.info.ensures.place c.info.ensures.asked in
     rw c.into_source-in-Err-info.ensures
     (failed_info view c.args.name.now old before after (g.O.Sink.view c.args.out.now) (g.O.Sink.view c.info.new.out) c.in-Err-info.fault c.in-Ok.ensures.opened ends.asked ends.place pages ends.ends)
