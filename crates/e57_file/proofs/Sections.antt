@@ -1,5 +1,5 @@
 -- The faults of the XML section, from what the steps of its opening found.
-use Rattle.std.proofs.Common.{◌≡◌, ℕ, ◌+◌, ◌-◌, ◌*◌, ◌/◌, ◌^◌, ◌<◌, ◌≤◌, min, Bool, true, false, cond, List, [], ◌∷◌, ◌++◌, length, take, drop, Option, Some, None, Result, Ok, Err, MatchResult, inl, inr, refl, sym, subst, arith, ⊎_elim}
+use Rattle.std.proofs.Common.{◌≡◌, ℕ, ◌+◌, ◌-◌, ◌*◌, ◌/◌, ◌≤◌, min, Bool, true, false, cond, List, [], ◌∷◌, length, take, drop, Option, Some, None, Result, Ok, Err, MatchResult, inl, inr, refl, sym, subst, arith, ⊎_elim}
 use Rattle.std.specs.Prelude.{IfSome, nat_lt, IsErrAnd}
 use Rattle.std.specs.Option.{option_or}
 use Rattle.std.proofs.lemmas.Bool.Decides.{nat_tests}
@@ -9,7 +9,6 @@ use Rattle.e57_base.specs.Told.{told_map, told_both, length_told}
 use Rattle.e57_base.specs.declared.fault.Fault.{Fault}
 use Rattle.e57_base.specs.declared.fault.ReadFault.{ReadFault}
 use Rattle.e57_base.specs.declared.fault.ReadFault.TheVariants as read
-use Rattle.e57_base.specs.declared.fault.OpenFault.{OpenFault}
 use Rattle.e57_base.specs.declared.fault.OpenFault.TheVariants.{Refused}
 use Rattle.e57_base.specs.declared.fault.TextFault.{TextFault}
 use Rattle.e57_base.specs.declared.fault.TextFault.TheVariants as text
@@ -18,10 +17,9 @@ use Rattle.e57_page.specs.declared.header.Header.{Header}
 use Rattle.e57_page.specs.declared.pages.Cut.{Cut}
 use Rattle.e57_page.specs.Header.{header_of}
 use Rattle.e57_page.specs.Place.{place, span_end}
-use Rattle.e57_page.specs.PlaceLaws.{rises_to_higher}
 use Rattle.e57_page.specs.File.{logical, span_fault}
 use Rattle.e57_page.specs.Pages.{AsksUnkept, IsCutAt, IsStopped}
-use Rattle.e57_page.specs.PagesLaws.{asks_unkept_wider, cut_asks, cut_fault, cut_source}
+use Rattle.e57_page.specs.PagesLaws.{asks_unkept_wider, cut_fault, cut_source}
 use Rattle.e57_page.specs.XmlSection.{xml_limit, xml_place_fault, xml_limit_fault, xml_start, xml_span_fault, xml_section_fault, xml_text}
 use Rattle.e57_pieces.specs.declared.piece.Piece.{Piece}
 use Rattle.e57_pieces.specs.Cut.{IsNext, NoPiece}
