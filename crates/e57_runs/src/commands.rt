@@ -122,8 +122,8 @@ fn each_failed_call_of_the_source_is_a_source_fault(rt: HostRuntime) -> Result<(
             source.fail_at(call as u64)?;
             let ended = run_words(alloc, words, source, room(alloc)?, room(alloc)?)?;
             let (front, _) = asked.split_at(call);
-            let is_so =
-                ended.is(Status::SourceFault, b"", b"source fault\n") && ended.asked_for(front);
+            let is_so = ended.is(Status::SourceFault, b"", b"source fault\n")
+                && ended.asked_for(front);
             assert!(rt; is_so, "call {call}");
         }
     }

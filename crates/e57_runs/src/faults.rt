@@ -51,7 +51,10 @@ fn info_shows_the_tree_or_its_first_fault(rt: HostRuntime) -> Result<(), Fail> {
     for (text, status, out, err) in &TEXTS {
         let bytes = file_of_text(alloc, text, 1024, text.len() as u64)?;
         let ended = run_on(alloc, &["info", "scan"], bytes)?;
-        assert!(rt; ended.is(*status, out.as_bytes(), err.as_bytes()), "{out}{err}");
+        assert!(rt;
+            ended.is(*status, out.as_bytes(), err.as_bytes()),
+            "{out}{err}"
+        );
     }
     Ok(())
 }

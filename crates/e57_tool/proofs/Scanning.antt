@@ -10,8 +10,7 @@ use Rattle.e57_base.specs.declared.fault.Fault.{Fault}
 use Rattle.e57_base.specs.Fault.{read_as_run}
 use Rattle.e57_base.specs.declared.fault.ReadFault.{ReadFault}
 use Rattle.e57_base.specs.declared.fault.ReadFault.TheVariants as read
-use Rattle.e57_base.specs.declared.fault.RunFault.{RunFault}
-use Rattle.e57_base.specs.declared.fault.RunFault.TheVariants.{Refused, Source, Out, Memory}
+use Rattle.e57_base.specs.declared.fault.RunFault.TheVariants.{Refused, Source}
 use Rattle.e57_page.specs.declared.header.Header.{Header}
 use Rattle.e57_page.specs.Header.{header_fault, header_of}
 use Rattle.e57_page.specs.File.{length_fault, page_fault, pages_fault, opening_fault}

@@ -1,10 +1,10 @@
 -- How `info` ends, from what opening the file and showing its text found.
-use Rattle.std.proofs.Common.{◌≡◌, ℕ, ◌+◌, ◌-◌, ◌*◌, ◌/◌, ◌<◌, ◌≤◌, min, max, Bool, true, false, ◌||◌, ◌==◌, List, [], ◌∷◌, length, Option, Some, None, Result, Ok, Err, inl, inr, refl, sym, ap, subst, ◌∙◌, arith, lit≤}
+use Rattle.std.proofs.Common.{◌≡◌, ℕ, ◌*◌, ◌/◌, ◌<◌, ◌≤◌, min, max, Bool, true, false, ◌||◌, List, [], ◌∷◌, length, Option, Some, None, Result, Err, inl, inr, refl, sym, subst, ◌∙◌, arith, lit≤}
 use Rattle.std.specs.Prelude.{IfSome, MatchOption, IfErr}
-use Rattle.e57_base.specs.Count.{Rose, rose_before}
+use Rattle.e57_base.specs.Count.{rose_before}
 use Rattle.e57_base.specs.Fault.{read_as_run}
-use Rattle.e57_base.specs.Source.{SourceView, Asks, asks_on, asks_none, same_file}
-use Rattle.e57_base.specs.Sink.{SinkView, Grows, GrowsByFront}
+use Rattle.e57_base.specs.Source.{SourceView, Asks, asks_on}
+use Rattle.e57_base.specs.Sink.{SinkView}
 use Rattle.e57_base.specs.Told.{told_map, told_both, told_here}
 use Rattle.e57_base.specs.Opening.{OpensOnce, IsOpen, opens_later, open_later}
 use Rattle.e57_base.specs.declared.fault.Fault.{Fault}
@@ -20,7 +20,7 @@ use Rattle.e57_page.specs.PlaceLaws.{rises_from_lower, rises_to_higher}
 use Rattle.e57_page.specs.File.{logical_size, opening_fault}
 use Rattle.e57_page.specs.Opening.{IsOpenedFile, IsUnopenedFile, AsksAtMostForFirst}
 use Rattle.e57_page.specs.Pages.{Reading, AsksFor, AsksUnkept, is_opening_kind}
-use Rattle.e57_page.specs.PagesLaws.{asks_for_none, asks_unkept_from}
+use Rattle.e57_page.specs.PagesLaws.{asks_unkept_from}
 use Rattle.e57_page.specs.XmlSection.{xml_start, xml_span_fault}
 use Rattle.e57_file.specs.Text.{IsTextFault, AsksForXml, is_text_kind}
 use Rattle.e57_show.specs.Info.{InfoEnds, ShowsText, HasNoTextFault, IsShown}
@@ -117,7 +117,7 @@ section_asked name old mid new size header kept opened keeps placed asked =
       pages = 0 ∷ rest;
       asks = asks_on old.asked mid.asked new.asked (0 ∷ []) rest opened.asked asks.asked;
       stops = goes_on new (0 ∷ rest) size is opened.whole (told_here (λ file. opening_fault file ≡ None) mid.held new.held asks.same.held opened.sound);
-      of_file = inr (rw is (inr (rest, refl, in_file)));
+      of_file = inr (subst (λ (s : Option ℕ). IfSome s (λ n. IsFirstAndThen 1 (n / 1024) (0 ∷ rest))) (sym is) (inr (rest, refl, in_file)));
       of_text = told_here (λ file. IsTextAsk (header_of file) (0 ∷ rest)) mid.held new.held asks.same.held
           (told_map (λ file. header ≡ header_of file) (λ file. IsTextAsk (header_of file) (0 ∷ rest)) mid.held
           (λ file head. subst (λ (h : Header). IsTextAsk h (0 ∷ rest)) head (inr (rest, refl, in_text)))
@@ -135,13 +135,14 @@ text_asked {S} view name old before after out out' result opened keeps judged as
   | Some found ↦ λ some refused. subst (λ (r : Reading S). AsksForText old (view r.source)) (sym refused.1) (first_asked old (view before.source) opened.asked (stops_at_first (view before.source) before.length opened.size_is opened.whole))
 ] refl judged
 
+not_both : {T : Type 0} (result : Result T RunFault) (found : Fault) → result ≡ Err Memory → result ≡ Err (Refused found) → ⊥
+not_both result found memory refused = cc
+
 -- memory ran out, so the section has its place
-placed : {S T : Type 0} (before after : Reading S) (out out' : SinkView) → JudgesPlaceFirst {T = T} before out (Err Memory) after out' → xml_span_fault before.header (before.length / 1024 * 1020) ≡ None
-placed {S} {T} before after out out' judged =
-    let memory : Result T RunFault = Err Memory in
-    elim (xml_span_fault before.header (before.length / 1024 * 1020)) as (λ (o : Option Fault). MatchOption o (IfErr memory IsPastPlace) (λ found. (memory ≡ Err (Refused found)) × (after ≡ before) × (out' ≡ out)) → o ≡ None) [
+placed : {S T : Type 0} (before after : Reading S) (out out' : SinkView) (result : Result T RunFault) → result ≡ Err Memory → JudgesPlaceFirst before out result after out' → xml_span_fault before.header (before.length / 1024 * 1020) ≡ None
+placed before after out out' result is judged = elim (xml_span_fault before.header (before.length / 1024 * 1020)) as (λ (o : Option Fault). MatchOption o (IfErr result IsPastPlace) (λ found. (result ≡ Err (Refused found)) × (after ≡ before) × (out' ≡ out)) → o ≡ None) [
   | None ↦ λ past. refl
-  | Some found ↦ λ refused. absurd (let clash = refused.0 in cc)
+  | Some found ↦ λ refused. absurd (not_both result found is refused.0)
 ] judged
 
 no_info_fault : (file : List ℕ) → opening_fault file ≡ None → HasNoTextFault file → HasSoundText file
@@ -165,8 +166,8 @@ shown_file name old mid new size header text rest opened asks shows =
     }
 
 -- the text has a fault, or a call failed
-pub failed_info : {S T : Type 0} (view : S → SourceView) (name : List ℕ) (old : SourceView) (before after : Reading S) (out out' : SinkView) (fault : RunFault) → IsOpenedFile name old before.length before.header (view before.source) → AsksForXml before (view before.source) (view after.source) → JudgesPlaceFirst {T = T} before out (Err fault) after out' → AsksForText old (view after.source) → InfoEnds (view before.source) (view after.source) out out' (Some fault) → ReadsFile info_answer info_rule name old (view after.source) out out' (Failed fault)
-failed_info view name old before after out out' (Refused found) opened asked judged pages (kind, first, nothing) =
+pub failed_info : {S T : Type 0} (view : S → SourceView) (name : List ℕ) (old : SourceView) (before after : Reading S) (out out' : SinkView) (result : Result T RunFault) (fault : RunFault) → result ≡ Err fault → IsOpenedFile name old before.length before.header (view before.source) → AsksForXml before (view before.source) (view after.source) → JudgesPlaceFirst before out result after out' → AsksForText old (view after.source) → InfoEnds (view before.source) (view after.source) out out' (Some fault) → ReadsFile info_answer info_rule name old (view after.source) out out' (Failed fault)
+failed_info view name old before after out out' result (Refused found) is opened asked judged pages (kind, first, nothing) =
     let asks = asked.3 in
     let mid = view before.source in
     let new = view after.source in
@@ -180,23 +181,23 @@ failed_info view name old before after out out' (Refused found) opened asked jud
         nothing = nothing;
       };
     }
-failed_info view name old before after out out' Source opened asked judged pages (cause, nothing) =
+failed_info view name old before after out out' result Source is opened asked judged pages (cause, nothing) =
     let asks = asked.3 in
     record {
       pages = pages;
       answers = record { opens = opens_later opened.opens asks.same asks.faults; cause = rose_before old.faults (view before.source).faults (view after.source).faults opened.opens.faults cause; nothing = nothing };
     }
-failed_info view name old before after out out' Out opened asked judged pages (text, shows, cause, wrote) =
+failed_info view name old before after out out' result Out is opened asked judged pages (text, shows, cause, wrote) =
     let file = shown_file name old (view before.source) (view after.source) before.length before.header text asked.0 opened asked.3 shows in
     record {
       pages = pages;
       answers = record { opens = file.opens; file = file.file; sound = file.sound; cause = cause; wrote = (text, file.output, wrote) };
     }
-failed_info {T = T} view name old before after out out' Memory opened asked judged pages nothing =
+failed_info view name old before after out out' result Memory is opened asked judged pages nothing =
     let asks = asked.3 in
     let mid = view before.source in
     let new = view after.source in
-    let place = place_told mid before.length before.header None opened.long opened.read (placed {T = T} before after out out' judged) in
+    let place = place_told mid before.length before.header None opened.long opened.read (placed before after out out' result is judged) in
     record {
       pages = pages;
       answers = record {
@@ -207,4 +208,4 @@ failed_info {T = T} view name old before after out out' Memory opened asked judg
         nothing = nothing;
       };
     }
-failed_info view name old before after out out' (Ask why) opened asked judged pages never = absurd never
+failed_info view name old before after out out' result (Ask why) is opened asked judged pages never = absurd never

@@ -24,4 +24,4 @@ returns-in-Err-info g c =
     let ends = c.in-Err-info.ensures in
     let pages = text_asked view c.args.name.now old before after (g.O.Sink.view c.args.out.now) (g.O.Sink.view c.info.new.out) c.info.result c.in-Ok.ensures.opened c.in-Ok.ensures.kept c.info.ensures.place c.info.ensures.asked in
     rw c.into_source-in-Err-info.ensures
-    (failed_info view c.args.name.now old before after (g.O.Sink.view c.args.out.now) (g.O.Sink.view c.info.new.out) c.in-Err-info.fault c.in-Ok.ensures.opened ends.asked ends.place pages ends.ends)
+    (failed_info view c.args.name.now old before after (g.O.Sink.view c.args.out.now) (g.O.Sink.view c.info.new.out) c.info.result c.in-Err-info.fault c.in-Err-info.is c.in-Ok.ensures.opened ends.asked c.info.ensures.place pages ends.ends)

@@ -9,7 +9,7 @@ returns-in-Err-scan g c =
     let view = g.S.Source.view in
     let opened = c.in-Ok.pages in
     let scanned = c.in-Err-scan.ensures.pages in
-    rw (c.into_source.ensures, c.from.ensures)
+    rw (c.into_source.ensures, c.from-in-Err-scan.ensures)
     (stopped_at c.args.name.now (view c.args.source) (view opened.source) (view c.scan.new.self.source) (g.O.Sink.view c.args.out.now) opened.length scanned.0 opened.header c.in-Err-scan.fault c.in-Ok.ensures.opened scanned.1)
 
 pub returns-in-Ok-put : goal.returns-in-Ok-put
