@@ -3,13 +3,14 @@ use Rattle.std.proofs.Common.{◌≡◌, ℕ, List, Option, Some, None, inl, inr
 use Rattle.std.specs.Prelude.{IfSome, option_and_then}
 use Rattle.std.specs.FinMap.{get}
 use Rattle.e57_base.specs.Source.{Stock, SourceView}
+use Rattle.e57_base.specs.Target.{TargetView}
 use Rattle.e57_base.specs.Sink.{SinkView}
 use Rattle.e57_base.specs.declared.fault.Fault.{Fault}
 use Rattle.e57_base.specs.declared.fault.RunFault.TheVariants.{Refused, Source, Out, Memory, Ask}
 use Rattle.e57_tool.specs.declared.ending.Ending.{Ending}
 use Rattle.e57_tool.specs.declared.ending.Ending.TheVariants.{Done, RefusedOnOut, RefusedSecond, Failed}
 use Rattle.e57_tool.specs.Ending.{status_of}
-use Rattle.e57_tool.specs.Outside.{Outside, NoCallFails}
+use Rattle.e57_tool.specs.Outside.{Outside, outside, NoCallFails}
 use Rattle.e57_tool.specs.Run.{CallsSource, OneFile, IsDone, Keeps}
 use Rattle.e57_tool.specs.FileAnswer.{FileAnswer, PageRule, AnswersFile, ReadsFile, HasSoundFile, reading}
 
@@ -47,11 +48,13 @@ opened answer name source source' old new out out' (Failed Out) ends = (ends.ope
 opened answer name source source' old new out out' (Failed Memory) ends = (ends.opens.opened, λ tells. absurd cc)
 opened answer name source source' old new out out' (Failed (Ask why)) ends = absurd ends
 
-pub keeps : {S T : Type 0} (answer : FileAnswer) (rule : PageRule) (name : List ℕ) (source source' : S) (target : T) (before after : Outside) (ending : Ending) → IsEither answer → ReadsFile answer rule name before.source after.source before.out after.out ending → Keeps (reading answer rule name) source source' target target before after ending
-keeps answer rule name source source' target before after ending either reads =
+pub keeps : {S T O : Type 0} (source_of : S → SourceView) (target_of : T → TargetView) (out_of : O → SinkView) (answer : FileAnswer) (rule : PageRule) (name : List ℕ) (source source' : S) (target : T) (out out' : O) (ending : Ending) → IsEither answer → ReadsFile answer rule name (source_of source) (source_of source') (out_of out) (out_of out') ending → Keeps source_of target_of out_of (reading answer rule name) source target out (source', target, ending) out'
+keeps source_of target_of out_of answer rule name source source' target out out' ending either reads =
+    let before = outside (source_of source) (target_of target) (out_of out) in
+    let after = outside (source_of source') (target_of target) (out_of out') in
     record {
       ends = reads;
       complete = done answer name before after ending either reads.answers;
-      source_calls = opened answer name source source' before.source after.source before.out after.out ending reads.answers;
+      source_calls = opened answer name source source' (source_of source) (source_of source') (out_of out) (out_of out') ending reads.answers;
       target_calls = refl;
     }

@@ -204,6 +204,7 @@ failed_info view name old before after out out' result Memory is opened asked ju
         takes = refl;
         opens = opens_later opened.opens asks.same asks.faults;
         file = open_later old mid new name opened.file asks.same;
+        whole = (before.length, asks.same.size ∙ opened.size_is, opened.whole);
         long = told_here HasTextPlace mid.held new.held asks.same.held (told_both (λ file. opening_fault file ≡ None) (λ file. xml_span_fault (header_of file) (logical_size file) ≡ None) HasTextPlace mid.held (λ file sound none. (sound, none)) opened.sound place);
         nothing = nothing;
       };

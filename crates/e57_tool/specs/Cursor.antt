@@ -1,6 +1,8 @@
 -- The words of a command line, read one after another.
-use Rattle.std.specs.Prelude.{ℕ, ◌+◌, Bool, not, if◌then◌else◌, List, [], ◌∷◌, drop, Option, Some, None, Result, Ok, Err, codes, nat_eq}
+use Rattle.std.specs.Prelude.{ℕ, ◌+◌, Bool, not, if◌then◌else◌, List, [], ◌∷◌, map, drop, Option, Some, None, Result, Ok, Err, codes, nat_eq}
 use Rattle.std.specs.List.{starts_with}
+use Rattle.std.specs.String.{string_bytes}
+use Rattle.e57_tool.specs.declared.cursor.Cursor.{Cursor}
 
 -- the words that are still to be read, and the number of the first of them
 pub record Unread : Type 0 where
@@ -10,6 +12,10 @@ pub record Unread : Type 0 where
 -- the words from this number on
 abbrev pub unread_from : ℕ → List (List ℕ) → Unread
 unread_from at words = record { at = at; words = drop at words }
+
+-- the words that a cursor has not read
+abbrev pub unread : Cursor → Unread
+unread cursor = unread_from cursor.next (map string_bytes cursor.words.now)
 
 -- a word that may stand in a place
 abbrev pub is_place : List ℕ → Bool

@@ -1,5 +1,5 @@
 -- A command that reads one file and puts a text: how it ends, without a fault or with one.
-use Rattle.std.specs.Prelude.{◌≡◌, ℕ, List, Bool, false, IsTrue, Option, Some, IfSome, option_and_then}
+use Rattle.std.specs.Prelude.{◌≡◌, ℕ, List, Bool, false, IsTrue, Option, Some, None, IfSome, option_and_then}
 use Rattle.std.specs.FinMap.{get}
 use Rattle.e57_base.specs.Count.{Rose}
 use Rattle.e57_base.specs.Source.{SourceView}
@@ -8,6 +8,7 @@ use Rattle.e57_base.specs.Sink.{SinkView, Grows, GrowsByFront}
 use Rattle.e57_base.specs.declared.fault.Fault.{Fault}
 use Rattle.e57_base.specs.declared.fault.RunFault.TheVariants.{Refused, Source, Out, Memory, Ask}
 use Rattle.e57_base.specs.declared.kind.Kind.{Kind}
+use Rattle.e57_page.specs.File.{length_fault}
 use Rattle.e57_tool.specs.declared.ending.Ending.{Ending}
 use Rattle.e57_tool.specs.declared.ending.Ending.TheVariants.{Done, RefusedOnOut, RefusedSecond, Failed}
 use Rattle.e57_tool.specs.Outside.{Outside}
@@ -54,11 +55,12 @@ pub record LosesOut (answer : FileAnswer) (name : List ℕ) (old new : SourceVie
   pub cause : Rose out.faults out'.faults
   pub wrote : (text : List ℕ) × IfSome new.held (λ file. answer.is_output file text) × GrowsByFront out.written text out'.written
 
--- The file is one with which memory may run out. Nothing was put.
+-- The file has whole pages, and is one with which memory may run out. Nothing was put.
 pub record RunsOut (answer : FileAnswer) (name : List ℕ) (old new : SourceView) (out out' : SinkView) : Type 0 where
   pub takes : IsTrue answer.takes_memory
   pub opens : OpensOnce old name new
   pub file : IsOpen old name new
+  pub whole : (size : ℕ) × (new.size ≡ Some size) × (length_fault size ≡ None)
   pub long : IfSome new.held answer.may_run_out
   pub nothing : out' ≡ out
 

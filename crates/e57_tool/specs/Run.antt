@@ -9,7 +9,7 @@ use Rattle.e57_tool.specs.declared.status.Status.{Status}
 use Rattle.e57_tool.specs.declared.status.Status.TheVariants.{Done, Refused, WordsFault, Memory, AskRefused}
 use Rattle.e57_tool.specs.Lines.{words_line}
 use Rattle.e57_tool.specs.Ending.{status_of, line_of, PutsLine, PutsLineOf}
-use Rattle.e57_tool.specs.Outside.{Outside, NoCallFails}
+use Rattle.e57_tool.specs.Outside.{Outside, outside, NoCallFails}
 
 -- how many files a command opens
 pub data Opens : Type 0 where
@@ -59,12 +59,12 @@ IsDone takes_memory given = (given ≡ Done) ⊎ (IsTrue takes_memory × (given 
 abbrev pub IsComplete : Promise → Outside → Outside → Status → Type 0
 IsComplete promise before after given = promise.is_ready before → NoCallFails before after → IsDone promise.takes_memory given
 
--- A command keeps its promise.
-pub record Keeps {S T : Type 0} (promise : Promise) (source source' : S) (target target' : T) (before after : Outside) (ending : Ending) : Type 0 where
-  pub ends : promise.ends before after ending
-  pub complete : IsComplete promise before after (status_of ending)
-  pub source_calls : CallsSource promise.opens source source' before.source after.source (status_of ending)
-  pub target_calls : CallsTarget promise.writes target target' before.target after.target
+-- A command keeps its promise, by what its objects tell. It gives the source and the target back, and its ending.
+pub record Keeps {S T O : Type 0} (source_of : S → SourceView) (target_of : T → TargetView) (out_of : O → SinkView) (promise : Promise) (source : S) (target : T) (out : O) (given : S × T × Ending) (out' : O) : Type 0 where
+  pub ends : promise.ends (outside (source_of source) (target_of target) (out_of out)) (outside (source_of given.0) (target_of given.1) (out_of out')) given.2
+  pub complete : IsComplete promise (outside (source_of source) (target_of target) (out_of out)) (outside (source_of given.0) (target_of given.1) (out_of out')) (status_of given.2)
+  pub source_calls : CallsSource promise.opens source given.0 (source_of source) (source_of given.0) (status_of given.2)
+  pub target_calls : CallsTarget promise.writes target given.1 (target_of target) (target_of given.1)
 
 -- The command ended so, and the status and the line on `err` say how.
 abbrev pub EndsAs : (Ending → Type 0) → SinkView → SinkView → Status → Type 0

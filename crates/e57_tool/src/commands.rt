@@ -1,6 +1,5 @@
 //! Each command by its words.
 
-ghost use Rattle.e57_tool.specs.Outside.{outside};
 ghost use Rattle.e57_tool.specs.Run.{Keeps};
 ghost use Rattle.e57_tool.specs.Words.{command_of};
 ghost use Rattle.e57_tool.specs.Commands.{promise_of};
@@ -21,7 +20,7 @@ pub fn perform<S: Source, T: Target, O: Sink>(
     target: T,
     out: &mut O,
 ) -> (S, T, Ending)
-    ensures { Keeps (promise_of (command_of ask.entry)) source result.0 target result.1 (outside (S.view source) (T.view target) (O.view out.old)) (outside (S.view result.0) (T.view result.1) (O.view out.new)) result.2 }
+    ensures { Keeps S.view T.view O.view (promise_of (command_of ask.entry)) source target out.old result out.new }
 {
     match ask {
         Ask::Help => put_help(source, target, out),

@@ -1,7 +1,7 @@
 //! The words of a command line, read one after another.
 
-ghost use Rattle.std.specs.Prelude.{◌≡◌, Some, None, Ok, Err, map, string_bytes, MatchResult};
-ghost use Rattle.e57_tool.specs.Cursor.{unread_from, is_place, next_place, left_over};
+ghost use Rattle.std.specs.Prelude.{◌≡◌, Some, None, Ok, Err, MatchResult};
+ghost use Rattle.e57_tool.specs.Cursor.{unread, is_place, next_place, left_over};
 
 /// The words ask for nothing.
 #[derive(Clone, Copy, Debug, PartialEq, Eq)]
@@ -30,8 +30,8 @@ impl<'a> Cursor<'a> {
     pub fn place(&mut self) -> Result<&'a str, WordFault>
         ensures words { self.new.words.now ≡ self.old.words.now }
         ensures place { MatchResult result
-            (λ word. next_place (unread_from self.old.next (map string_bytes self.old.words.now)) ≡ Ok (word.now, unread_from self.new.next (map string_bytes self.old.words.now)))
-            (λ fault. next_place (unread_from self.old.next (map string_bytes self.old.words.now)) ≡ Err fault.at) }
+            (λ word. next_place (unread self.old) ≡ Ok (word.now, unread self.new))
+            (λ fault. next_place (unread self.old) ≡ Err fault.at) }
     {
         let fault = WordFault {
             at: self.next as u64,
@@ -50,8 +50,8 @@ impl<'a> Cursor<'a> {
     /// No word is left.
     pub fn end(&self) -> Result<(), WordFault>
         ensures { MatchResult result
-            (λ _. left_over (unread_from self.now.next (map string_bytes self.now.words.now)) ≡ None)
-            (λ fault. left_over (unread_from self.now.next (map string_bytes self.now.words.now)) ≡ Some fault.at) }
+            (λ _. left_over (unread self.now) ≡ None)
+            (λ fault. left_over (unread self.now) ≡ Some fault.at) }
     {
         if self.next < self.words.len() {
             return Err(WordFault {

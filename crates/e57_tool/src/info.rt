@@ -1,6 +1,5 @@
 //! `info FILE`
 
-ghost use Rattle.e57_tool.specs.Outside.{outside};
 ghost use Rattle.e57_tool.specs.FileAnswer.{ReadsFile};
 ghost use Rattle.e57_tool.specs.Run.{Keeps};
 ghost use Rattle.e57_tool.specs.Info.{info_rule, info_answer, info_promise};
@@ -13,7 +12,8 @@ use std::alloc::Global;
 
 // Opens the file, and puts the written spelling of its element tree and a line feed on `out`.
 fn show_file<S: Source, O: Sink>(alloc: Global, name: &str, source: S, out: &mut O) -> (S, Ending)
-    ensures { ReadsFile info_answer info_rule name.now (S.view source) (S.view result.0) (O.view out.old) (O.view out.new) result.1 }
+    ensures { ReadsFile info_answer info_rule name.now
+        (S.view source) (S.view result.0) (O.view out.old) (O.view out.new) result.1 }
 {
     let mut pages = match open_file(name, source) {
         Ok(pages) => pages,
@@ -34,7 +34,7 @@ pub fn show_info<S: Source, T: Target, O: Sink>(
     target: T,
     out: &mut O,
 ) -> (S, T, Ending)
-    ensures { Keeps (info_promise name.now) source result.0 target result.1 (outside (S.view source) (T.view target) (O.view out.old)) (outside (S.view result.0) (T.view result.1) (O.view out.new)) result.2 }
+    ensures { Keeps S.view T.view O.view (info_promise name.now) source target out.old result out.new }
 {
     let (source, ending) = show_file(alloc, name, source, out);
     (source, target, ending)

@@ -1,6 +1,5 @@
 //! `pages FILE`
 
-ghost use Rattle.e57_tool.specs.Outside.{outside};
 ghost use Rattle.e57_tool.specs.FileAnswer.{ReadsFile};
 ghost use Rattle.e57_tool.specs.Run.{Keeps};
 ghost use Rattle.e57_tool.specs.Pages.{AsksInOrder, pages_answer, pages_promise};
@@ -12,7 +11,8 @@ use e57_page::open_file;
 
 // Opens the file, tests each of its pages, and puts one line on `out`.
 fn scan_file<S: Source, O: Sink>(name: &str, source: S, out: &mut O) -> (S, Ending)
-    ensures { ReadsFile pages_answer AsksInOrder name.now (S.view source) (S.view result.0) (O.view out.old) (O.view out.new) result.1 }
+    ensures { ReadsFile pages_answer AsksInOrder name.now
+        (S.view source) (S.view result.0) (O.view out.old) (O.view out.new) result.1 }
 {
     let mut pages = match open_file(name, source) {
         Ok(pages) => pages,
@@ -38,7 +38,7 @@ pub fn test_pages<S: Source, T: Target, O: Sink>(
     target: T,
     out: &mut O,
 ) -> (S, T, Ending)
-    ensures { Keeps (pages_promise name.now) source result.0 target result.1 (outside (S.view source) (T.view target) (O.view out.old)) (outside (S.view result.0) (T.view result.1) (O.view out.new)) result.2 }
+    ensures { Keeps S.view T.view O.view (pages_promise name.now) source target out.old result out.new }
 {
     let (source, ending) = scan_file(name, source, out);
     (source, target, ending)

@@ -37,19 +37,29 @@ pub fn run<S: Source, T: Target, O: Sink, E: Sink>(
     err: &mut E,
 ) -> (Status, S, T)
     // The words ask for nothing: no object is called but `err`.
-    ensures words { IfErr (ask_of (map string_bytes words.now)) (λ at. RefusesWords at source result.1 target result.2 out.old out.new (E.view err.old) (E.view err.new) result.0) }
+    ensures words { IfErr (ask_of (map string_bytes words.now)) (λ at.
+        RefusesWords at source result.1 target result.2 out.old out.new (E.view err.old) (E.view err.new) result.0) }
 
     // How the command ends.
     ensures outcome { IfOk (ask_of (map string_bytes words.now)) (λ command.
-        EndsAs ((promise_of command).ends (outside (S.view source) (T.view target) (O.view out.old)) (outside (S.view result.1) (T.view result.2) (O.view out.new))) (E.view err.old) (E.view err.new) result.0) }
+        EndsAs
+        ((promise_of command).ends
+        (outside (S.view source) (T.view target) (O.view out.old))
+        (outside (S.view result.1) (T.view result.2) (O.view out.new)))
+        (E.view err.old) (E.view err.new) result.0) }
 
     // Where all is there that the command needs, and no call failed, the run is done.
     ensures complete { IfOk (ask_of (map string_bytes words.now)) (λ command.
-        IsComplete (promise_of command) (outside (S.view source) (T.view target) (O.view out.old)) (outside (S.view result.1) (T.view result.2) (O.view out.new)) result.0) }
+        IsComplete (promise_of command)
+        (outside (S.view source) (T.view target) (O.view out.old))
+        (outside (S.view result.1) (T.view result.2) (O.view out.new))
+        result.0) }
 
     // The source is called for the command's files alone, and the target by a command that writes.
-    ensures source { IfOk (ask_of (map string_bytes words.now)) (λ command. CallsSource (promise_of command).opens source result.1 (S.view source) (S.view result.1) result.0) }
-    ensures target { IfOk (ask_of (map string_bytes words.now)) (λ command. CallsTarget (promise_of command).writes target result.2 (T.view target) (T.view result.2)) }
+    ensures source { IfOk (ask_of (map string_bytes words.now)) (λ command.
+        CallsSource (promise_of command).opens source result.1 (S.view source) (S.view result.1) result.0) }
+    ensures target { IfOk (ask_of (map string_bytes words.now)) (λ command.
+        CallsTarget (promise_of command).writes target result.2 (T.view target) (T.view result.2)) }
 {
     let ask = match read_words(words) {
         Ok(ask) => ask,

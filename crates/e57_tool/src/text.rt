@@ -1,8 +1,7 @@
 //! `--help` and `--version`.
 
-ghost use Rattle.e57_tool.specs.Outside.{outside};
 ghost use Rattle.e57_tool.specs.Run.{Keeps};
-ghost use Rattle.e57_tool.specs.Text.{PutsText, putting, help_text, version_text};
+ghost use Rattle.e57_tool.specs.Text.{putting, help_text, version_text};
 
 use crate::ending::Ending;
 use e57_base::{RunFault, Sink, Source, Target};
@@ -26,7 +25,7 @@ const VERSION: &str = "e57 0.1.0\n";
 
 /// Puts the help on `out`.
 pub fn put_help<S: Source, T: Target, O: Sink>(source: S, target: T, out: &mut O) -> (S, T, Ending)
-    ensures { Keeps (putting help_text) source result.0 target result.1 (outside (S.view source) (T.view target) (O.view out.old)) (outside (S.view result.0) (T.view result.1) (O.view out.new)) result.2 }
+    ensures { Keeps S.view T.view O.view (putting help_text) source target out.old result out.new }
 {
     match out.put(HELP.as_bytes()) {
         Ok(()) => (source, target, Ending::Done),
@@ -40,7 +39,7 @@ pub fn put_version<S: Source, T: Target, O: Sink>(
     target: T,
     out: &mut O,
 ) -> (S, T, Ending)
-    ensures { Keeps (putting version_text) source result.0 target result.1 (outside (S.view source) (T.view target) (O.view out.old)) (outside (S.view result.0) (T.view result.1) (O.view out.new)) result.2 }
+    ensures { Keeps S.view T.view O.view (putting version_text) source target out.old result out.new }
 {
     match out.put(VERSION.as_bytes()) {
         Ok(()) => (source, target, Ending::Done),

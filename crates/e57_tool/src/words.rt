@@ -1,7 +1,7 @@
 //! What the words of a command line ask for.
 
 ghost use Rattle.std.specs.Prelude.{◌≡◌, Ok, Err, map, string_bytes, MatchResult};
-ghost use Rattle.e57_tool.specs.Cursor.{unread_from, at_end};
+ghost use Rattle.e57_tool.specs.Cursor.{unread, at_end};
 ghost use Rattle.e57_tool.specs.Words.{ask_of, command_ask, command_of, only_place};
 
 use crate::cursor::{Cursor, WordFault};
@@ -22,8 +22,8 @@ pub enum Ask<'a> {
 // The one place behind a command, a file's name, and no word behind it.
 fn only_place(mut words: Cursor<'_>) -> Result<&str, WordFault>
     ensures { MatchResult result
-        (λ file. only_place (unread_from words.entry.next (map string_bytes words.entry.words.now)) ≡ Ok file.now)
-        (λ fault. only_place (unread_from words.entry.next (map string_bytes words.entry.words.now)) ≡ Err fault.at) }
+        (λ file. only_place (unread words.entry) ≡ Ok file.now)
+        (λ fault. only_place (unread words.entry) ≡ Err fault.at) }
 {
     let file = words.place()?;
     words.end()?;
@@ -33,8 +33,8 @@ fn only_place(mut words: Cursor<'_>) -> Result<&str, WordFault>
 // A command that has no place, and no word behind it.
 fn no_place<'a>(ask: Ask<'a>, words: Cursor<'a>) -> Result<Ask<'a>, WordFault>
     ensures { MatchResult result
-        (λ given. at_end (command_of ask.entry) (unread_from words.entry.next (map string_bytes words.entry.words.now)) ≡ Ok (command_of given))
-        (λ fault. at_end (command_of ask.entry) (unread_from words.entry.next (map string_bytes words.entry.words.now)) ≡ Err fault.at) }
+        (λ given. at_end (command_of ask.entry) (unread words.entry) ≡ Ok (command_of given))
+        (λ fault. at_end (command_of ask.entry) (unread words.entry) ≡ Err fault.at) }
 {
     words.end()?;
     Ok(ask)
@@ -44,8 +44,8 @@ fn no_place<'a>(ask: Ask<'a>, words: Cursor<'a>) -> Result<Ask<'a>, WordFault>
 #[tactic(auto, unfolding(crate::specs::Words::command_ask))]
 fn read_command<'a>(command: &str, words: Cursor<'a>) -> Result<Ask<'a>, WordFault>
     ensures { MatchResult result
-        (λ ask. command_ask command.now (unread_from words.entry.next (map string_bytes words.entry.words.now)) ≡ Ok (command_of ask))
-        (λ fault. command_ask command.now (unread_from words.entry.next (map string_bytes words.entry.words.now)) ≡ Err fault.at) }
+        (λ ask. command_ask command.now (unread words.entry) ≡ Ok (command_of ask))
+        (λ fault. command_ask command.now (unread words.entry) ≡ Err fault.at) }
 {
     match command {
         "--help" => no_place(Ask::Help, words),
