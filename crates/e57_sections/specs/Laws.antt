@@ -12,3 +12,4 @@ pub mod Reached
 pub mod Items
 pub mod Refusals
 pub mod Sections
+pub mod Fronts
