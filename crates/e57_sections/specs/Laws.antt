@@ -13,3 +13,4 @@ pub mod Items
 pub mod Refusals
 pub mod Sections
 pub mod Fronts
+pub mod Covers

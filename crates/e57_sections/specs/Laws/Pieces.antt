@@ -41,7 +41,7 @@ unfolding data_packets
 data-none = refl
 
 -- the place of the first packet of the first piece
-start_of_first : List (List Packet) → ℕ
+unfoldable pub start_of_first : List (List Packet) → ℕ
 start_of_first [] = 0
 start_of_first (piece ∷ pieces) = start_of piece
 
@@ -49,7 +49,7 @@ length_of_first : List (List Packet) → ℕ
 length_of_first [] = 0
 length_of_first (piece ∷ pieces) = length piece
 
-onto-start : (p : Packet) (pieces : List (List Packet)) → start_of_first (onto_first p pieces) ≡ p.place
+pub onto-start : (p : Packet) (pieces : List (List Packet)) → start_of_first (onto_first p pieces) ≡ p.place
 unfolding start_of_first
 onto-start p [] = refl
 onto-start p (piece ∷ pieces) = refl
@@ -59,7 +59,7 @@ unfolding length_of_first
 onto-length p [] = omega arith
 onto-length p (piece ∷ pieces) = omega arith
 
-onto-rest : (p : Packet) (pieces : List (List Packet)) (front next : List Packet) (more : List (List Packet)) → onto_first p pieces ≡ front ∷ next ∷ more → (piece : List Packet) × (pieces ≡ piece ∷ next ∷ more)
+pub onto-rest : (p : Packet) (pieces : List (List Packet)) (front next : List Packet) (more : List (List Packet)) → onto_first p pieces ≡ front ∷ next ∷ more → (piece : List Packet) × (pieces ≡ piece ∷ next ∷ more)
 onto-rest p [] front next more is = absurd (let count : 1 ≡ suc (suc (length more)) = ap (λ (all : List (List Packet)). length all) is in omega arith)
 onto-rest p (piece ∷ pieces) front next more is = (piece, ap (λ (all : List (List Packet)). piece ∷ drop 1 all) is)
 
