@@ -14,3 +14,4 @@ pub mod Refusals
 pub mod Sections
 pub mod Fronts
 pub mod Covers
+pub mod Found
