@@ -77,7 +77,12 @@ fn put_number(begun: Begun, number: u64, width: u8, out: &mut [u8]) -> Begun
     requires room { 8 * begun.place + begun.held + width ≤ 8 * length out.old }
     ensures { PutsNumber begun number width out.old result out.new }
 {
-    let Begun { place, word, held, .. } = begun;
+    let Begun {
+        place,
+        word,
+        held,
+        ..
+    } = begun;
     let step = width as usize;
     let filled = word | number << held;
     if held + step < 64 {
