@@ -27,12 +27,17 @@ CanUnpack-packed values minimum width phase span before bytes can packed small f
     room : phase + length values * width ≤ 8 * length before → phase + width * length values ≤ 8 * length before
     room h = omega arith
 
--- unpacking them gives them back, where they are at most the minimum plus the span
-pub unpacked_packed : (values : List ℤ) (minimum : ℤ) (width phase span : ℕ) (before bytes : List ℕ) (old new : List ℤ) (result : Result (Unit {0}) ℕ)
+-- Unpacking what was packed gives the values back, and finds no number above the span, where each value is at most the
+-- minimum plus the span.
+abbrev pub PackedComesBack : Type 0
+PackedComesBack =
+    (values : List ℤ) (minimum : ℤ) (width phase span : ℕ) (before bytes : List ℕ) (old new : List ℤ) (result : Result (Unit {0}) ℕ)
     → Packed values minimum width phase before bytes → length old ≡ length values
     → ((k : ℕ) → k < length values → get_or values k (pos 0) ≤ℤ (minimum +ℤ pos span))
     → Unpacks bytes phase width minimum span old result new
     → (result ≡ Ok tt) × (new ≡ values)
+
+pub unpacked_packed : PackedComesBack
 unpacked_packed values minimum width phase span before bytes old new (Ok tt) packed long most unpacked = (
   refl,
   ext_get_or (pos 0) new values (unpacked.same_length ∙ long)

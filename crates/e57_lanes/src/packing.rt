@@ -4,6 +4,7 @@ ghost use Rattle.std.specs.Prelude.{◌≡◌, ◌≢◌, ◌+◌, ◌-◌, ◌*
 ghost use Rattle.e57_bits.specs.Bits.{bit, number};
 ghost use Rattle.e57_lanes.specs.Pack.{CanPack, Packed};
 ghost use Rattle.e57_lanes.specs.Begun.{PutsNumber};
+ghost use Rattle.e57_lanes.specs.PackLaws.{PackedComesBack};
 ghost use Rattle.e57_lanes.specs.PackSteps.{PackedBetween, value_number, joined, FitsField, SameBits};
 
 use crate::begun::Begun;
@@ -21,6 +22,12 @@ pub fn pack(values: &[i64], min: i64, width: u8, phase: u8, out: &mut [u8])
     let blocks = values.len() / 8;
     pack_blocks(values, min, width, blocks, out);
     pack_from(values, 8 * blocks, min, width, phase, out);
+}
+
+/// Packed values come back when they are unpacked. No code: it stands for the law.
+pub fn packed_comes_back()
+    ensures { PackedComesBack }
+{
 }
 
 /// Packs the values from `from` on, bit by bit.
