@@ -1,6 +1,6 @@
 //! Integers packed as bit fields.
 
-ghost use Rattle.std.specs.Prelude.{◌≡◌, ◌≢◌, ◌+◌, ◌-◌, ◌*◌, ◌/◌, ◌%◌, ◌^◌, ◌<◌, ◌≤◌, ◌⊎◌, ℕ, Bool, length, slice_index_or, pos, ◌-ℤ◌, ◌≤ℤ◌, ◌<ℤ◌, if◌then◌else◌};
+ghost use Rattle.std.specs.Prelude.{◌≡◌, ◌+◌, ◌*◌, ◌/◌, ◌^◌, ◌<◌, ◌≤◌, ℕ, length, pos, ◌-ℤ◌, ◌≤ℤ◌, ◌<ℤ◌, if◌then◌else◌};
 ghost use Rattle.e57_bits.specs.Bits.{bit, number};
 ghost use Rattle.e57_lanes.specs.Pack.{CanPack, Packed};
 ghost use Rattle.e57_lanes.specs.Begun.{PutsNumber};
@@ -27,8 +27,7 @@ pub fn pack(values: &[i64], min: i64, width: u8, phase: u8, out: &mut [u8])
 /// Packed values come back when they are unpacked. No code: it stands for the law.
 pub fn packed_comes_back()
     ensures { PackedComesBack }
-{
-}
+{}
 
 /// Packs the values from `from` on, bit by bit.
 fn pack_from(values: &[i64], from: usize, min: i64, width: u8, phase: u8, out: &mut [u8])

@@ -1,5 +1,4 @@
-ghost use Rattle.std.specs.Prelude.{◌≡◌, ◌+◌, ◌*◌, ◌^◌, ◌<◌, ◌≤◌, length};
-ghost use Rattle.e57_bits.specs.Bits.{number};
+ghost use Rattle.std.specs.Prelude.{◌^◌, ◌<◌, ◌≤◌};
 
 use crate::plain::number_bit_by_bit;
 use crate::{pack, unpack, unpack32, unpack64};

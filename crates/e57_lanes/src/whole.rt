@@ -1,7 +1,6 @@
 //! Fields of whole bytes: 8, 16, 32 or 64 bits that begin at a byte.
 
-ghost use Rattle.std.specs.Prelude.{◌≡◌, ◌+◌, ◌*◌, ◌/◌, ◌<◌, ◌≤◌, ◌⊎◌, length};
-ghost use Rattle.e57_bits.specs.Bits.{number};
+ghost use Rattle.std.specs.Prelude.{◌≡◌, ◌+◌, ◌*◌, ◌≤◌, ◌⊎◌, length};
 ghost use Rattle.e57_lanes.specs.Eight.{eight_numbers};
 ghost use Rattle.e57_lanes.specs.Unpack.{CanUnpack, Written, Unpacks};
 
