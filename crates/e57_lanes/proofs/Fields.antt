@@ -1,5 +1,5 @@
 -- Words of bytes, shifted and masked, as bit fields.
-use Rattle.std.proofs.Common.{◌≡◌, ℕ, zero, suc, ◌+◌, ◌-◌, ◌*◌, ◌/◌, ◌%◌, ◌^◌, ◌<◌, ◌≤◌, List, [], ◌∷◌, get_or, bit_and, bit_or, refl, sym, ap, ap₂, ◌∙◌, arith, add-one, add-zero, lit<, ◌⊎◌, inl, inr}
+use Rattle.std.proofs.Common.{◌≡◌, ℕ, ◌+◌, ◌-◌, ◌*◌, ◌/◌, ◌%◌, ◌^◌, ◌<◌, ◌≤◌, List, [], ◌∷◌, get_or, bit_and, bit_or, refl, sym, ap, ap₂, ◌∙◌, arith, add-one, add-zero, lit<, ◌⊎◌, inl, inr}
 use Rattle.std.proofs.Math.Nat.{mul_comm, mod-eq_of_lt, pow-le-pow_right, mul-mod_left}
 use Rattle.std.proofs.lemmas.Nat.{and_mask, or_shifted, shr_high, mod_low, pow-add, pow_pos, shl_below, or_comm, mod-pow-add, shl-shr}
 use Rattle.std.proofs.lemmas.Nat.Bits.{ones_shr}
@@ -71,16 +71,16 @@ in_nine b p s w word top e g small h k =
     let span : (64 - s) + s ≡ 64 = omega arith in
     let low : word / 2 ^ s ≡ number b (8 * p + s) (64 - s) = ap (λ x. x / 2 ^ s) e ∙ number-div b (8 * p) s 64 (omega arith) in
     let high : top % 2 ^ s ≡ number b (8 * p + s + (64 - s)) s =
-        ap (λ x. x % 2 ^ s) g ∙ sym (number-low_bits b (p + 8) s (omega arith)) ∙ ap (λ x. number b x s) (omega arith) in
+    ap (λ x. x % 2 ^ s) g ∙ sym (number-low_bits b (p + 8) s (omega arith)) ∙ ap (λ x. number b x s) (omega arith) in
     let whole : bit_or (word / 2 ^ s) (top * 2 % 2 ^ 64 * 2 ^ (63 - s) % 2 ^ 64) ≡ number b (8 * p + s) 64 =
-        ap (bit_or (word / 2 ^ s)) (shifted top s small h)
-        ∙ or_comm (word / 2 ^ s) (top % 2 ^ s * 2 ^ (64 - s))
-        ∙ ap (bit_or (top % 2 ^ s * 2 ^ (64 - s))) low
-        ∙ or_shifted (top % 2 ^ s) (64 - s) (number b (8 * p + s) (64 - s)) (number-lt b (8 * p + s) (64 - s))
-        ∙ ap (λ x. x * 2 ^ (64 - s) + number b (8 * p + s) (64 - s)) high
-        ∙ turned (number b (8 * p + s + (64 - s)) s) (2 ^ (64 - s)) (number b (8 * p + s) (64 - s))
-        ∙ sym (number-split b (8 * p + s) (64 - s) s)
-        ∙ ap (number b (8 * p + s)) span in
+    ap (bit_or (word / 2 ^ s)) (shifted top s small h)
+    ∙ or_comm (word / 2 ^ s) (top % 2 ^ s * 2 ^ (64 - s))
+    ∙ ap (bit_or (top % 2 ^ s * 2 ^ (64 - s))) low
+    ∙ or_shifted (top % 2 ^ s) (64 - s) (number b (8 * p + s) (64 - s)) (number-lt b (8 * p + s) (64 - s))
+    ∙ ap (λ x. x * 2 ^ (64 - s) + number b (8 * p + s) (64 - s)) high
+    ∙ turned (number b (8 * p + s + (64 - s)) s) (2 ^ (64 - s)) (number b (8 * p + s) (64 - s))
+    ∙ sym (number-split b (8 * p + s) (64 - s) s)
+    ∙ ap (number b (8 * p + s)) span in
     masked _ w k ∙ ap (λ x. x % 2 ^ w) whole ∙ number-mod b (8 * p + s) w 64 k
   where
     turned : (a q c : ℕ) → a * q + c ≡ c + q * a
@@ -98,7 +98,6 @@ in_nine b p s w word top e g small h k =
         ∙ mod-pow-add (x * 2 ^ (64 - r)) r (64 - r)
         ∙ ap₂ (λ y z. y % 2 ^ r * 2 ^ (64 - r) + z) (shl-shr x (64 - r)) (mul-mod_left x (2 ^ (64 - r)))
         ∙ add-zero (x % 2 ^ r * 2 ^ (64 - r))
-
 
 -- an item of 1, 2 or 4 bits whose phase is a multiple of its width lies in one byte
 pub in_one : (p w j m : ℕ) → p % w ≡ 0 → (w ≡ 1) ⊎ ((w ≡ 2) ⊎ (w ≡ 4)) → m ≡ p + j * w → m % 8 + w ≤ 8

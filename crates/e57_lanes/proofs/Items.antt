@@ -1,33 +1,36 @@
 -- Items written one by one, and eight at a time.
-use Rattle.std.proofs.Common.{◌≡◌, ℕ, zero, suc, ◌+◌, ◌-◌, ◌*◌, ◌^◌, ◌/◌, ◌%◌, ◌<◌, ◌≤◌, ◌⊎◌, List, [], ◌∷◌, map, length, get_or, set, take, drop, All, ℤ, pos, ◌+ℤ◌, refl, sym, ap, ap₂, ◌∙◌, arith, inl, inr, subst}
+use Rattle.std.proofs.Common.{◌≡◌, ℕ, zero, suc, ◌+◌, ◌-◌, ◌*◌, ◌/◌, ◌%◌, ◌<◌, ◌≤◌, ◌⊎◌, List, map, length, get_or, set, take, drop, All, ℤ, pos, ◌+ℤ◌, refl, sym, ap, ◌∙◌, arith, inl, inr, subst}
 use Rattle.std.proofs.lemmas.Simd.{get_or-put_chunk_below, get_or-put_chunk_at, get_or-put_chunk_above, length-put_chunk}
 use Rattle.std.proofs.lemmas.List.{ext_get_or, get_or-take, get_or-drop, take-take, map-id, length-take, length-drop, get_or-set_same, get_or-set_other, length-set, length-map, get_or-map}
 use Rattle.std.proofs.lemmas.Bool.{cases_lt, cases_eq}
 use lib.Lanes.{put_chunk}
 use Rattle.e57_bits.specs.Bits.{number}
 use Rattle.e57_bits.specs.BitLaws.{number-byte}
-use Rattle.e57_lanes.specs.Unpack.{stored, Written, Stops}
+use Rattle.e57_lanes.specs.Unpack.{stored, Written}
 use Rattle.e57_lanes.specs.Eight.{eight_numbers}
 
 module _ (bytes : List ℕ) (phase width : ℕ) (minimum : ℤ) (span : ℕ) where
   -- nothing is written yet
   pub Written-none : (from : ℕ) (old : List ℤ) → Written bytes phase width minimum span from from old old
   Written-none from old = record {
-      within = λ k h g. absurd (omega arith);
-      items = λ k h g. absurd (omega arith);
-      others = λ k h. refl;
-      same_length = refl }
+    within = λ k h g. absurd (omega arith);
+    items = λ k h g. absurd (omega arith);
+    others = λ k h. refl;
+    same_length = refl;
+  }
 
   -- one item more
   pub Written-more : (from k : ℕ) (old new : List ℤ) (x : ℤ) → Written bytes phase width minimum span from k old new → from ≤ k → k < length old
       → stored bytes phase width k ≤ span → x ≡ minimum +ℤ pos (stored bytes phase width k) → Written bytes phase width minimum span from (k + 1) old (set new k x)
   Written-more from k old new x w start room small e = record {
-      within = λ j h g. elim (cases_lt j k) [ inl below ↦ w.within j h below | inr past ↦ at_k j past g small ];
-      items = λ j h g. elim (cases_eq j k) [
-        | inl same ↦ rw same (get_or-set_same new k x (pos 0) (omega (arith, w.same_length)) ∙ e)
-        | inr other ↦ get_or-set_other new k j x (pos 0) other ∙ w.items j h (omega arith) ];
-      others = λ j h. get_or-set_other new k j x (pos 0) (apart j h) ∙ w.others j (before j h);
-      same_length = length-set new k x ∙ w.same_length }
+    within = λ j h g. elim (cases_lt j k) [ inl below ↦ w.within j h below | inr past ↦ at_k j past g small ];
+    items = λ j h g. elim (cases_eq j k) [
+      | inl same ↦ rw same (get_or-set_same new k x (pos 0) (omega (arith, w.same_length)) ∙ e)
+      | inr other ↦ get_or-set_other new k j x (pos 0) other ∙ w.items j h (omega arith)
+    ];
+    others = λ j h. get_or-set_other new k j x (pos 0) (apart j h) ∙ w.others j (before j h);
+    same_length = length-set new k x ∙ w.same_length;
+  }
     where
       at_k : (j : ℕ) → k ≤ j → j < k + 1 → stored bytes phase width k ≤ span → stored bytes phase width j ≤ span
       at_k j h g s = let same : j ≡ k = omega arith in rw same s
@@ -44,10 +47,11 @@ module _ (bytes : List ℕ) (phase width : ℕ) (minimum : ℤ) (span : ℕ) whe
   pub Written-join : (from mid until : ℕ) (a b c : List ℤ) → Written bytes phase width minimum span from mid a b → Written bytes phase width minimum span mid until b c
       → from ≤ mid → mid ≤ until → Written bytes phase width minimum span from until a c
   Written-join from mid until a b c u v h g = record {
-      within = λ k l r. elim (cases_lt k mid) [ inl below ↦ u.within k l below | inr past ↦ v.within k past r ];
-      items = λ k l r. elim (cases_lt k mid) [ inl below ↦ v.others k (inl below) ∙ u.items k l below | inr past ↦ v.items k past r ];
-      others = λ k l. v.others k (later k l) ∙ u.others k (sooner k l);
-      same_length = v.same_length ∙ u.same_length }
+    within = λ k l r. elim (cases_lt k mid) [ inl below ↦ u.within k l below | inr past ↦ v.within k past r ];
+    items = λ k l r. elim (cases_lt k mid) [ inl below ↦ v.others k (inl below) ∙ u.items k l below | inr past ↦ v.items k past r ];
+    others = λ k l. v.others k (later k l) ∙ u.others k (sooner k l);
+    same_length = v.same_length ∙ u.same_length;
+  }
     where
       later : (k : ℕ) → (k < from) ⊎ (until ≤ k) → (k < mid) ⊎ (until ≤ k)
       later k (inl l) = inl (omega arith)
@@ -81,12 +85,14 @@ pub Written-eight : (bytes : List ℕ) (phase width : ℕ) (minimum : ℤ) (span
     → All (λ n. n ≤ span) numbers → new ≡ put_chunk at mid (map (λ n. minimum +ℤ pos n) numbers)
     → Written bytes phase width minimum span 0 (at + 8) old new
 Written-eight bytes phase width minimum span at old mid new numbers t w e place room all made = record {
-    within = λ k l r. elim (cases_lt k at) [ inl below ↦ w.within k l below | inr past ↦ small k past r ];
-    items = λ k l r. elim (cases_lt k at) [
-      | inl below ↦ ap (λ xs. get_or xs k (pos 0)) made ∙ get_or-put_chunk_below at mid ys k (pos 0) below ∙ w.items k l below
-      | inr past ↦ item k past r ];
-    others = λ k l. ap (λ xs. get_or xs k (pos 0)) made ∙ get_or-put_chunk_above at mid ys k (pos 0) (after k l) ∙ w.others k (inr (later k l));
-    same_length = ap length made ∙ length-put_chunk at mid ys ∙ w.same_length }
+  within = λ k l r. elim (cases_lt k at) [ inl below ↦ w.within k l below | inr past ↦ small k past r ];
+  items = λ k l r. elim (cases_lt k at) [
+    | inl below ↦ ap (λ xs. get_or xs k (pos 0)) made ∙ get_or-put_chunk_below at mid ys k (pos 0) below ∙ w.items k l below
+    | inr past ↦ item k past r
+  ];
+  others = λ k l. ap (λ xs. get_or xs k (pos 0)) made ∙ get_or-put_chunk_above at mid ys k (pos 0) (after k l) ∙ w.others k (inr (later k l));
+  same_length = ap length made ∙ length-put_chunk at mid ys ∙ w.same_length;
+}
   where
     ys : List ℤ
     ys = map (λ n. minimum +ℤ pos n) numbers
@@ -162,4 +168,4 @@ eight_bytes b at bytes room =
     ∙ ap (λ n. take 8 (take n (drop at b))) eight
     ∙ take-take 8 8 (drop at b) (omega arith)
     ∙ eight_ext b (8 * at) 8 (take 8 (drop at b)) long
-      (λ j h. get_or-take 8 (drop at b) j 0 h ∙ get_or-drop at b j 0 ∙ sym (number-byte b (at + j) (bytes (at + j))) ∙ ap (λ t. number b t 8) (omega arith))
+    (λ j h. get_or-take 8 (drop at b) j 0 h ∙ get_or-drop at b j 0 ∙ sym (number-byte b (at + j) (bytes (at + j))) ∙ ap (λ t. number b t 8) (omega arith))

@@ -1,11 +1,11 @@
 -- Values packed one by one, and eight at a time.
-use Rattle.std.proofs.Common.{◌≡◌, ℕ, zero, suc, ◌+◌, ◌-◌, ◌*◌, ◌^◌, ◌<◌, ◌≤◌, ◌⊎◌, List, length, get_or, ℤ, pos, negsuc, ◌-ℤ◌, ◌≤ℤ◌, ◌<ℤ◌, nat_abs, refl, sym, ap, ap₂, ◌∙◌, arith, inl, inr, subst}
+use Rattle.std.proofs.Common.{◌≡◌, ℕ, ◌+◌, ◌-◌, ◌*◌, ◌^◌, ◌<◌, ◌≤◌, ◌⊎◌, List, length, get_or, ℤ, pos, negsuc, ◌-ℤ◌, ◌≤ℤ◌, ◌<ℤ◌, nat_abs, refl, sym, ap, ◌∙◌, arith, inl, inr}
 use Rattle.std.proofs.Math.Nat.{mul-le-mul_right}
 use Rattle.std.proofs.lemmas.Bool.{cases_lt}
 use Rattle.std.proofs.lemmas.Int.{ints}
-use Rattle.e57_bits.specs.Bits.{bit, number}
+use Rattle.e57_bits.specs.Bits.{number}
 use Rattle.e57_lanes.specs.Unpack.{stored}
-use Rattle.e57_lanes.specs.Pack.{Packed, CanPack}
+use Rattle.e57_lanes.specs.Pack.{Packed}
 use Rattle.e57_lanes.specs.PackSteps.{SameBits, PackedBetween, FitsField, value_number, joined}
 use Rattle.e57_lanes.proofs.Packs.{number-before, same-join, same_at, joined_field}
 
@@ -62,10 +62,11 @@ module _ (values : List ℤ) (minimum : ℤ) (width phase : ℕ) where
       → number new t width ≡ n → t ≡ phase + k * width → pos n ≡ get_or values k (pos 0) -ℤ minimum → SameBits t (t + width) mid new → length new ≡ length mid
       → PackedBetween values minimum width phase from (k + 1) old new
   packed-more from k old mid new n t w start put place value same long = record {
-      numbers = λ j l r. elim (cases_lt j k) [ inl below ↦ before j l below | inr past ↦ here j past r ];
-      others = same-join old mid new (phase + from * width) (phase + k * width) (phase + (k + 1) * width) w.others
-          (same_at mid new t (t + width) (phase + k * width) (phase + (k + 1) * width) same place (next k t place)) (ordered from k start) (ordered k (k + 1) (omega arith));
-      same_length = long ∙ w.same_length }
+    numbers = λ j l r. elim (cases_lt j k) [ inl below ↦ before j l below | inr past ↦ here j past r ];
+    others = same-join old mid new (phase + from * width) (phase + k * width) (phase + (k + 1) * width) w.others
+        (same_at mid new t (t + width) (phase + k * width) (phase + (k + 1) * width) same place (next k t place)) (ordered from k start) (ordered k (k + 1) (omega arith));
+    same_length = long ∙ w.same_length;
+  }
     where
       ordered : (a b : ℕ) → a ≤ b → phase + a * width ≤ phase + b * width
       ordered a b h = let more : a * width ≤ b * width = mul-le-mul_right width h in omega arith
@@ -85,20 +86,23 @@ module _ (values : List ℤ) (minimum : ℤ) (width phase : ℕ) where
   pub packed-join : (from mid until : ℕ) (a b c : List ℕ) → PackedBetween values minimum width phase from mid a b → PackedBetween values minimum width phase mid until b c
       → from ≤ mid → mid ≤ until → PackedBetween values minimum width phase from until a c
   packed-join from mid until a b c u v h g = record {
-      numbers = λ k l r. elim (cases_lt k mid) [
-        | inl below ↦ ap pos (number-before b c (phase + mid * width) (phase + until * width) (phase + k * width) width v.others (omega (arith, ends k mid width below))) ∙ u.numbers k l below
-        | inr past ↦ v.numbers k past r ];
-      others = same-join a b c (phase + from * width) (phase + mid * width) (phase + until * width) u.others v.others (ordered from mid h) (ordered mid until g);
-      same_length = v.same_length ∙ u.same_length }
+    numbers = λ k l r. elim (cases_lt k mid) [
+      | inl below ↦ ap pos (number-before b c (phase + mid * width) (phase + until * width) (phase + k * width) width v.others (omega (arith, ends k mid width below))) ∙ u.numbers k l below
+      | inr past ↦ v.numbers k past r
+    ];
+    others = same-join a b c (phase + from * width) (phase + mid * width) (phase + until * width) u.others v.others (ordered from mid h) (ordered mid until g);
+    same_length = v.same_length ∙ u.same_length;
+  }
     where
       ordered : (a b : ℕ) → a ≤ b → phase + a * width ≤ phase + b * width
       ordered a b h = let more : a * width ≤ b * width = mul-le-mul_right width h in omega arith
 
   pub packed_all : (a b : List ℕ) → PackedBetween values minimum width phase 0 (length values) a b → Packed values minimum width phase a b
   packed_all a b w = record {
-      numbers = λ k h. w.numbers k (omega arith) h;
-      others = λ t h. w.others t (begins t h);
-      same_length = w.same_length }
+    numbers = λ k h. w.numbers k (omega arith) h;
+    others = λ t h. w.others t (begins t h);
+    same_length = w.same_length;
+  }
     where
       begins : (t : ℕ) → (t < phase) ⊎ (phase + length values * width ≤ t) → (t < phase + 0 * width) ⊎ (phase + length values * width ≤ t)
       begins t (inl h) = inl (omega arith)
@@ -112,11 +116,12 @@ pub packed_block : (values : List ℤ) (minimum : ℤ) (width block : ℕ) (old 
     → SameBits (8 * (block * width)) (8 * (block * width + width)) mid new → length new ≡ length mid
     → PackedBetween values minimum width 0 0 (8 * (block + 1)) old new
 packed_block values minimum width block old mid new w fit put same long = record {
-    numbers = λ k l r. elim (cases_lt k (8 * block)) [ inl below ↦ before k below | inr past ↦ here k past r ];
-    others = same-join old mid new (0 + 0 * width) (0 + 8 * block * width) (0 + 8 * (block + 1) * width) w.others
-        (same_at mid new (8 * (block * width)) (8 * (block * width + width)) (0 + 8 * block * width) (0 + 8 * (block + 1) * width) same (first block width) (last block width))
-        (omega arith) (onward block width);
-    same_length = long ∙ w.same_length }
+  numbers = λ k l r. elim (cases_lt k (8 * block)) [ inl below ↦ before k below | inr past ↦ here k past r ];
+  others = same-join old mid new (0 + 0 * width) (0 + 8 * block * width) (0 + 8 * (block + 1) * width) w.others
+      (same_at mid new (8 * (block * width)) (8 * (block * width + width)) (0 + 8 * block * width) (0 + 8 * (block + 1) * width) same (first block width) (last block width))
+      (omega arith) (onward block width);
+  same_length = long ∙ w.same_length;
+}
   where
     first : (q v : ℕ) → 8 * (q * v) ≡ 0 + 8 * q * v
     first q v = grind arith
@@ -148,6 +153,6 @@ packed_block values minimum width block old mid new w fit put same long = record
         let place : 8 * block + j ≡ k = omega arith in
         let field = fit j small in
         ap pos (ap (λ t. number new t width) (begin k past)
-            ∙ joined_field new (8 * (block * width)) f width 8 (λ i h. gap-lt minimum (get_or values (8 * block + i) (pos 0)) width (fit i h).least (fit i h).most) put j small)
+        ∙ joined_field new (8 * (block * width)) f width 8 (λ i h. gap-lt minimum (get_or values (8 * block + i) (pos 0)) width (fit i h).least (fit i h).most) put j small)
         ∙ number_of_gap minimum (get_or values (8 * block + j) (pos 0)) field.least
         ∙ ap (λ i. get_or values i (pos 0) -ℤ minimum) place

@@ -1,11 +1,9 @@
 -- Bits put one by one, by bytes, and by words.
-use Rattle.std.proofs.Common.{◌≡◌, ◌≢◌, ℕ, zero, suc, ◌+◌, ◌-◌, ◌*◌, ◌/◌, ◌%◌, ◌^◌, ◌<◌, ◌≤◌, ◌⊎◌, List, length, get_or, set, bit_and, bit_or, Bool, true, false, if◌then◌else◌, refl, sym, ap, ap₂, ◌∙◌, arith, lit<, inl, inr, w8, add-zero, add-suc, add-one, subst, nat_eq}
-use Rattle.std.proofs.Math.Nat.{mod-eq_of_lt, div-eq_of_lt, mul-mod_left, pow-le-pow_right, pow-suc}
-use Rattle.std.proofs.lemmas.Nat.{mod_below, or_shifted, or_comm, mod-pow-add, pow-add, shl-shr, shl_below, shr_below, pow_pos, mul-add-lt, and_mask, or_lt, same_from_place}
-use Rattle.std.proofs.lemmas.Nat.Bits.{bit_at_set_same, bit_at_set_other, bit_at_clear_same, bit_at_clear_other}
-use Rattle.std.proofs.lemmas.List.{get_or-set_same, get_or-set_other, length-set}
+use Rattle.std.proofs.Common.{◌≡◌, ◌≢◌, ℕ, zero, suc, ◌+◌, ◌-◌, ◌*◌, ◌/◌, ◌%◌, ◌^◌, ◌<◌, ◌≤◌, List, length, get_or, set, bit_and, bit_or, if◌then◌else◌, refl, sym, ap, ap₂, ◌∙◌, arith, lit<, inl, inr, add-zero, add-one, subst, nat_eq}
+use Rattle.std.proofs.Math.Nat.{div-eq_of_lt, mul-mod_left, pow-le-pow_right}
+use Rattle.std.proofs.lemmas.Nat.{mod_below, or_shifted, or_comm, mod-pow-add, pow-add, shl-shr, shr_below, pow_pos, mul-add-lt, and_mask, or_lt, same_from_place}
+use Rattle.std.proofs.lemmas.List.{get_or-set_same, get_or-set_other}
 use Rattle.std.proofs.lemmas.Bool.{cases_lt, cases_eq}
-use Rattle.std.specs.Int.{bit_not}
 use Rattle.e57_bits.specs.Bits.{bit, number}
 use Rattle.e57_bits.specs.BitLaws.{number-zero, number-suc, number-split, number-lt, number-byte, bit-byte}
 use Rattle.e57_lanes.specs.PackSteps.{SameBits, joined}
@@ -42,8 +40,9 @@ bit-set_other xs i t y h =
 pub one_bit : (xs : List ℕ) (i p y : ℕ) → i < length xs → p < 8 → ((q : ℕ) → q < 8 → q ≢ p → y / 2 ^ q % 2 ≡ get_or xs i 0 / 2 ^ q % 2)
     → SameBits (8 * i + p) (8 * i + p + 1) xs (set xs i y)
 one_bit xs i p y h g rest t apart = elim (cases_eq (t / 8) i) [
-    | inl same ↦ inside same
-    | inr other ↦ bit-set_other xs i t y other ]
+  | inl same ↦ inside same
+  | inr other ↦ bit-set_other xs i t y other
+]
   where
     inside : t / 8 ≡ i → bit (set xs i y) t ≡ bit xs t
     inside same =
@@ -72,12 +71,12 @@ pub filled_over : (word held n : ℕ) → word < 2 ^ held → held < 64
 filled_over word held n fits small =
     let sum_of : (64 - held) + held ≡ 64 = omega arith in
     let lower : n * 2 ^ held % 2 ^ 64 ≡ n % 2 ^ (64 - held) * 2 ^ held =
-        ap (λ m. n * 2 ^ held % 2 ^ m) (sym sum_of)
-        ∙ mod-pow-add (n * 2 ^ held) (64 - held) held
-        ∙ ap₂ (λ y z. y % 2 ^ (64 - held) * 2 ^ held + z) (shl-shr n held) (mul-mod_left n (2 ^ held))
-        ∙ add-zero (n % 2 ^ (64 - held) * 2 ^ held) in
+    ap (λ m. n * 2 ^ held % 2 ^ m) (sym sum_of)
+    ∙ mod-pow-add (n * 2 ^ held) (64 - held) held
+    ∙ ap₂ (λ y z. y % 2 ^ (64 - held) * 2 ^ held + z) (shl-shr n held) (mul-mod_left n (2 ^ held))
+    ∙ add-zero (n % 2 ^ (64 - held) * 2 ^ held) in
     let joined : bit_or word (n * 2 ^ held % 2 ^ 64) ≡ n % 2 ^ (64 - held) * 2 ^ held + word =
-        ap (bit_or word) lower ∙ or_comm word (n % 2 ^ (64 - held) * 2 ^ held) ∙ or_shifted (n % 2 ^ (64 - held)) held word fits in
+    ap (bit_or word) lower ∙ or_comm word (n % 2 ^ (64 - held) * 2 ^ held) ∙ or_shifted (n % 2 ^ (64 - held)) held word fits in
     let power : 2 ^ 64 ≡ 2 ^ (64 - held) * 2 ^ held = ap (λ m. 2 ^ m) (sym sum_of) ∙ pow-add 2 (64 - held) held in
     let split : n / 2 ^ (64 - held) * 2 ^ (64 - held) + n % 2 ^ (64 - held) ≡ n = omega arith in
     ap₂ (λ x p. x + p * (n / 2 ^ (64 - held))) joined power
@@ -208,7 +207,7 @@ joined_end old new f at place word held w onward counted so_far same put =
     ap (number new (8 * at)) q
     ∙ number-split new (8 * at) (8 * (place - at)) (8 * (held / 8))
     ∙ ap₂ (λ a t. a + 2 ^ (8 * (place - at)) * number new t (8 * (held / 8)))
-      (number-before old new (8 * place) (8 * (place + held / 8)) (8 * at) (8 * (place - at)) same (omega arith)) begin
+    (number-before old new (8 * place) (8 * (place + held / 8)) (8 * at) (8 * (place - at)) same (omega arith)) begin
     ∙ ap (λ x. number old (8 * at) (8 * (place - at)) + 2 ^ (8 * (place - at)) * x) put
     ∙ so_far
 
@@ -228,8 +227,9 @@ pub joined_field : (b : List ℕ) (t : ℕ) (f : ℕ → ℕ) (w n : ℕ) → ((
 unfolding joined
 joined_field b t f w zero h e j g = absurd (omega arith)
 joined_field b t f w (suc n) h e j g = elim (cases_lt j n) [
-    | inl below ↦ joined_field b t f w n (λ k l. h k (omega arith)) lower j below
-    | inr last ↦ let same : j ≡ n = omega arith in rw same upper ]
+  | inl below ↦ joined_field b t f w n (λ k l. h k (omega arith)) lower j below
+  | inr last ↦ let same : j ≡ n = omega arith in rw same upper
+]
   where
     split : number b t (n * w) + 2 ^ (n * w) * number b (t + n * w) w ≡ joined f w n + 2 ^ (n * w) * f n
     split = sym (number-split b t (n * w) w) ∙ ap (number b t) (omega arith) ∙ e

@@ -1,8 +1,7 @@
 -- Eight numbers in a vector: tested, and put as items.
-use Rattle.std.proofs.Common.{◌≡◌, ◌≢◌, ℕ, zero, suc, ◌+◌, ◌-◌, ◌*◌, ◌%◌, ◌^◌, ◌<◌, ◌≤◌, List, [], ◌∷◌, ◌++◌, map, length, get_or, take, drop, replicate, Bool, true, false, not, cond, ltb, eqb, nat_eq, All, ℤ, pos, negsuc, ◌+ℤ◌, ◌≤ℤ◌, FitsSigned, w64, to_z, of_z, refl, sym, ap, ap₂, ◌∙◌, arith, lit<}
+use Rattle.std.proofs.Common.{◌≡◌, ℕ, zero, suc, ◌+◌, ◌-◌, ◌*◌, ◌%◌, ◌^◌, ◌<◌, ◌≤◌, List, [], ◌∷◌, map, length, get_or, take, drop, replicate, Bool, true, false, not, cond, ltb, nat_eq, All, ℤ, pos, negsuc, ◌+ℤ◌, ◌≤ℤ◌, FitsSigned, w64, to_z, of_z, refl, sym, ap, ap₂, ◌∙◌, arith}
 use Rattle.std.proofs.lemmas.Simd.{zip2_splat, zip2_splat_left, tops_compared, mask_l-mod, map-map, put_chunk_is, put_chunk_whole}
 use Rattle.std.proofs.lemmas.List.{length-map, length-take, length-drop, drop-drop, map-id}
-use Rattle.std.proofs.lemmas.Bool.{eqb-true}
 use Rattle.std.proofs.lemmas.Int.{ints, wrapping_add-bits, to_z_pos, to_z-of_z, int_wrap_fits}
 use Rattle.std.specs.Bool.{OnFalse}
 use Rattle.std.specs.Int.{int_wrap}

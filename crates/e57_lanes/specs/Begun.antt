@@ -1,5 +1,5 @@
 -- A word on its way to the bytes.
-use Rattle.std.specs.Prelude.{◌≡◌, ℕ, ◌+◌, ◌-◌, ◌*◌, ◌^◌, ◌≤◌, List, length}
+use Rattle.std.specs.Prelude.{◌≡◌, ℕ, ◌+◌, ◌-◌, ◌*◌, ◌^◌, ◌≤◌, List}
 use Rattle.e57_bits.specs.Bits.{number}
 use Rattle.e57_lanes.specs.PackSteps.{SameBits}
 use Rattle.e57_lanes.specs.declared.begun.Begun.{Begun}

@@ -1,7 +1,6 @@
 //! Eight items at a time.
 
-ghost use Rattle.std.specs.Prelude.{◌≡◌, ◌+◌, ◌-◌, ◌*◌, ◌/◌, ◌%◌, ◌^◌, ◌<◌, ◌≤◌, ℕ, List, map, length, pos, ◌+ℤ◌, ◌≤ℤ◌, Bool, true, false, All};
-
+ghost use Rattle.std.specs.Prelude.{◌≡◌, ◌+◌, ◌-◌, ◌^◌, ◌<◌, ◌≤◌, map, length, pos, ◌+ℤ◌, ◌≤ℤ◌, All};
 ghost use Rattle.e57_lanes.specs.Eight.{first_bits};
 ghost use Rattle.std.specs.Bool.{MatchBool, OnFalse};
 ghost use Rattle.std.specs.Simd.Lanes.{put_chunk};

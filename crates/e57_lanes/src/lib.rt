@@ -15,7 +15,7 @@ mod words;
 
 pub use far::unpack_far;
 pub use near::unpack_near;
-pub use packing::pack;
+pub use packing::{pack, packed_comes_back};
 pub use parts::unpack_parts;
 pub use unpacking::unpack;
 pub use whole::unpack_whole;

@@ -28,14 +28,7 @@ pub fn unpack_near(
 
 /// Unpacks whole blocks while eight bytes are there for each item and no number is above the span. Answers how many
 /// items are written.
-fn blocks_near(
-    bytes: &[u8],
-    phase: u8,
-    width: u8,
-    min: i64,
-    span: u64,
-    out: &mut [i64],
-) -> usize
+fn blocks_near(bytes: &[u8], phase: u8, width: u8, min: i64, span: u64, out: &mut [i64]) -> usize
     requires fields { CanUnpack bytes.now phase width min span (length out.old) }
     requires width { 0 < width × width ≤ 57 }
     ensures bound { result ≤ length out.old }

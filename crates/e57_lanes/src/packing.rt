@@ -1,9 +1,10 @@
 //! Integers packed as bit fields.
 
-ghost use Rattle.std.specs.Prelude.{◌≡◌, ◌≢◌, ◌+◌, ◌-◌, ◌*◌, ◌/◌, ◌%◌, ◌^◌, ◌<◌, ◌≤◌, ◌⊎◌, ℕ, Bool, length, slice_index_or, pos, ◌-ℤ◌, ◌≤ℤ◌, ◌<ℤ◌, if◌then◌else◌};
+ghost use Rattle.std.specs.Prelude.{◌≡◌, ◌+◌, ◌*◌, ◌/◌, ◌^◌, ◌<◌, ◌≤◌, ℕ, length, pos, ◌-ℤ◌, ◌≤ℤ◌, ◌<ℤ◌, if◌then◌else◌};
 ghost use Rattle.e57_bits.specs.Bits.{bit, number};
 ghost use Rattle.e57_lanes.specs.Pack.{CanPack, Packed};
 ghost use Rattle.e57_lanes.specs.Begun.{PutsNumber};
+ghost use Rattle.e57_lanes.specs.PackLaws.{PackedComesBack};
 ghost use Rattle.e57_lanes.specs.PackSteps.{PackedBetween, value_number, joined, FitsField, SameBits};
 
 use crate::begun::Begun;
@@ -22,6 +23,11 @@ pub fn pack(values: &[i64], min: i64, width: u8, phase: u8, out: &mut [u8])
     pack_blocks(values, min, width, blocks, out);
     pack_from(values, 8 * blocks, min, width, phase, out);
 }
+
+/// Packed values come back when they are unpacked. No code: it stands for the law.
+pub fn packed_comes_back()
+    ensures { PackedComesBack }
+{}
 
 /// Packs the values from `from` on, bit by bit.
 fn pack_from(values: &[i64], from: usize, min: i64, width: u8, phase: u8, out: &mut [u8])
@@ -77,7 +83,12 @@ fn put_number(begun: Begun, number: u64, width: u8, out: &mut [u8]) -> Begun
     requires room { 8 * begun.place + begun.held + width ≤ 8 * length out.old }
     ensures { PutsNumber begun number width out.old result out.new }
 {
-    let Begun { place, word, held, .. } = begun;
+    let Begun {
+        place,
+        word,
+        held,
+        ..
+    } = begun;
     let step = width as usize;
     let filled = word | number << held;
     if held + step < 64 {

@@ -27,14 +27,7 @@ pub fn unpack_parts(
 }
 
 /// Unpacks whole blocks while no number is above the span. Answers how many items are written.
-fn blocks_parts(
-    bytes: &[u8],
-    phase: u8,
-    width: u8,
-    min: i64,
-    span: u64,
-    out: &mut [i64],
-) -> usize
+fn blocks_parts(bytes: &[u8], phase: u8, width: u8, min: i64, span: u64, out: &mut [i64]) -> usize
     requires fields { CanUnpack bytes.now phase width min span (length out.old) }
     requires width { (width ≡ 1) ⊎ ((width ≡ 2) ⊎ (width ≡ 4)) }
     requires phase { phase % width ≡ 0 }

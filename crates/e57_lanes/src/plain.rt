@@ -1,7 +1,7 @@
 //! One item after another, and one bit after another.
 
 ghost use Rattle.std.specs.Prelude.{◌≡◌, ◌+◌, ◌*◌, ◌/◌, ◌%◌, ◌^◌, ◌<◌, ◌≤◌, length, pos, ◌+ℤ◌, ◌≤ℤ◌, ◌-◌};
-ghost use Rattle.e57_bits.specs.Bits.{number, bit};
+ghost use Rattle.e57_bits.specs.Bits.{number};
 ghost use Rattle.e57_lanes.specs.Unpack.{CanUnpack, UnpacksFrom, stored};
 
 use e57_bits::u64_at;

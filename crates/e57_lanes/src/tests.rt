@@ -1,5 +1,4 @@
-ghost use Rattle.std.specs.Prelude.{◌≡◌, ◌+◌, ◌*◌, ◌^◌, ◌<◌, ◌≤◌, length};
-ghost use Rattle.e57_bits.specs.Bits.{number};
+ghost use Rattle.std.specs.Prelude.{◌^◌, ◌<◌, ◌≤◌};
 
 use crate::plain::number_bit_by_bit;
 use crate::{pack, unpack, unpack32, unpack64};
@@ -9,7 +8,11 @@ fn widest(width: u8) -> u64
     requires { width ≤ 64 }
     ensures { result < 2 ^ width }
 {
-    if width == 0 { 0 } else { u64::MAX >> (64 - width) }
+    if width == 0 {
+        0
+    } else {
+        u64::MAX >> (64 - width)
+    }
 }
 
 /// Bytes with no pattern of eight.
@@ -43,7 +46,10 @@ fn every_width_and_phase(rt: HostRuntime) {
     mixed(&mut bytes);
     for width in 0..65u8 {
         for phase in 0..8u8 {
-            assert!(rt; same_as_plain(&bytes, phase, width), "width {width} phase {phase}");
+            assert!(rt;
+                same_as_plain(&bytes, phase, width),
+                "width {width} phase {phase}"
+            );
         }
     }
 }

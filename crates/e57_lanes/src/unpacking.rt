@@ -1,6 +1,6 @@
 //! The choice among the ways to unpack.
 
-ghost use Rattle.std.specs.Prelude.{◌≡◌, length};
+ghost use Rattle.std.specs.Prelude.{length};
 ghost use Rattle.e57_lanes.specs.Unpack.{CanUnpack, Unpacks};
 
 use crate::far::unpack_far;

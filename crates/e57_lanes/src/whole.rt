@@ -1,7 +1,6 @@
 //! Fields of whole bytes: 8, 16, 32 or 64 bits that begin at a byte.
 
-ghost use Rattle.std.specs.Prelude.{◌≡◌, ◌+◌, ◌*◌, ◌/◌, ◌<◌, ◌≤◌, ◌⊎◌, length};
-ghost use Rattle.e57_bits.specs.Bits.{number};
+ghost use Rattle.std.specs.Prelude.{◌≡◌, ◌+◌, ◌*◌, ◌≤◌, ◌⊎◌, length};
 ghost use Rattle.e57_lanes.specs.Eight.{eight_numbers};
 ghost use Rattle.e57_lanes.specs.Unpack.{CanUnpack, Written, Unpacks};
 
@@ -32,13 +31,7 @@ pub fn unpack_whole(
 }
 
 /// The same for 64 bits, which an i64 lane can't hold before the minimum is added.
-fn unpack_words(
-    bytes: &[u8],
-    phase: u8,
-    min: i64,
-    span: u64,
-    out: &mut [i64],
-) -> Result<(), usize>
+fn unpack_words(bytes: &[u8], phase: u8, min: i64, span: u64, out: &mut [i64]) -> Result<(), usize>
     requires fields { CanUnpack bytes.now phase 64 min span (length out.old) }
     requires phase { phase ≡ 0 }
     ensures { Unpacks bytes.now phase 64 min span out.old result out.new }
@@ -54,14 +47,7 @@ fn unpack_words(
 }
 
 /// Unpacks whole blocks while no number is above the span. Answers how many items are written.
-fn blocks_whole(
-    bytes: &[u8],
-    phase: u8,
-    width: u8,
-    min: i64,
-    span: u64,
-    out: &mut [i64],
-) -> usize
+fn blocks_whole(bytes: &[u8], phase: u8, width: u8, min: i64, span: u64, out: &mut [i64]) -> usize
     requires fields { CanUnpack bytes.now phase width min span (length out.old) }
     requires width { (width ≡ 8) ⊎ ((width ≡ 16) ⊎ (width ≡ 32)) }
     requires phase { phase ≡ 0 }
@@ -116,7 +102,8 @@ fn eight_of_16(bytes: &[u8], at: usize) -> u64x8
         u16_at(bytes, at + 10),
         u16_at(bytes, at + 12),
         u16_at(bytes, at + 14),
-    ]).cast::<u64>()
+    ])
+    .cast::<u64>()
 }
 
 #[inline(always)]
@@ -133,5 +120,6 @@ fn eight_of_32(bytes: &[u8], at: usize) -> u64x8
         u32_at(bytes, at + 20),
         u32_at(bytes, at + 24),
         u32_at(bytes, at + 28),
-    ]).cast::<u64>()
+    ])
+    .cast::<u64>()
 }

@@ -1,5 +1,5 @@
 -- What one call takes of a piece.
-use Rattle.std.specs.Prelude.{◌≡◌, ℕ, ◌+◌, ◌<◌, ◌≤◌, List, [], ◌∷◌, ◌++◌, length, take, drop, Option, Some, None}
+use Rattle.std.specs.Prelude.{◌≡◌, ℕ, ◌+◌, ◌<◌, ◌≤◌, List, [], ◌++◌, length, take, drop}
 use Rattle.e57_strings.specs.Progress.{Progress, in_prefix, in_string, prefix_size, stated_length}
 use Rattle.e57_strings.specs.declared.cursor.Fed.{Fed}
 use Rattle.e57_strings.specs.declared.cursor.Fed.TheVariants.{More, Length, Whole}

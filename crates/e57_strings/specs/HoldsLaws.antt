@@ -1,13 +1,12 @@
 -- What is taken of a stream is the reading of its strings, wherever it is cut.
-use Rattle.std.proofs.Common.{◌≡◌, ◌≢◌, ℕ, zero, suc, ◌+◌, ◌-◌, ◌*◌, ◌%◌, ◌/◌, ◌<◌, ◌≤◌, ◌⊎◌, List, [], ◌∷◌, ◌++◌, take, drop, length, get_or, ltb, Bool, true, false, cond, ◌==◌, if◌then◌else◌, refl, sym, ap, ap₂, subst, ◌∙◌, arith, inl, inr, append_assoc}
-use Rattle.std.proofs.lemmas.List.{append-nil, length-append, length-take-le, length-drop, take_at, drop_at, take_all, drop_all, take-append-le, drop-append-le, get_or_append_left}
-use Rattle.std.proofs.lemmas.Bool.{cases_lt}
+use Rattle.std.proofs.Common.{◌≡◌, ℕ, suc, ◌+◌, ◌%◌, ◌/◌, ◌<◌, ◌≤◌, List, [], ◌∷◌, ◌++◌, take, drop, length, get_or, ltb, Bool, true, false, ◌==◌, if◌then◌else◌, refl, sym, ap, ap₂, subst, ◌∙◌, arith, append_assoc}
+use Rattle.std.proofs.lemmas.List.{append-nil, length-append, length-take-le, length-drop, take_at, drop_at, drop_all, take-append-le, drop-append-le, get_or_append_left}
 use Rattle.std.proofs.lemmas.Bool.Decides.{nat_tests}
 use Rattle.e57_bits.specs.Bits.{number}
 use Rattle.e57_bits.specs.BitLaws.{number-take}
-use Rattle.e57_layout.specs.Strings.{StringRead, string_found, string_too_long, string_cut_off, PrefixRead, prefix_found, prefix_too_long, prefix_cut_off, first_prefix, first_string, after_prefix, string_limit, limited}
+use Rattle.e57_layout.specs.Strings.{string_found, prefix_found, prefix_too_long, prefix_cut_off, first_prefix, first_string, after_prefix, string_limit, limited}
 use Rattle.e57_strings.specs.Progress.{Progress, in_prefix, in_string, prefix_size, stated_length}
-use Rattle.e57_strings.specs.Feeds.{Feeds, HasRoom, overwritten, PrefixGoesOn, PrefixEnds, StringGoesOn, StringEnds}
+use Rattle.e57_strings.specs.Feeds.{Feeds, HasRoom, overwritten}
 use Rattle.e57_strings.specs.Holds.{HoldsString, Holds, IsUnfinished, Reads}
 use Rattle.e57_strings.specs.declared.cursor.Fed.{Fed}
 use Rattle.e57_strings.specs.declared.cursor.Fed.TheVariants.{More, Length, Whole}
@@ -122,14 +121,15 @@ holds-more so_far bytes old new n d m h room count within made =
     let begun : prefix_size so_far ≤ length so_far = omega (arith, h.counted) in
     let size : prefix_size (so_far ++ bytes) ≡ prefix_size so_far = size-more so_far bytes (omega (arith, size-pos so_far)) in
     record {
-        stated = h.stated ∙ sym (stated-more so_far bytes begun);
-        counted = length-append so_far bytes ∙ counts (length so_far) (prefix_size so_far) d (length bytes) m h.counted count ∙ ap (λ p. p + (d + m)) (sym size);
-        within = within;
-        put = ap₂ (λ k xs. take (d + k) xs) count made
-            ∙ put-more old bytes d (omega (arith, h.within))
-            ∙ ap (λ xs. xs ++ bytes) h.put
-            ∙ sym (drop-append-le (prefix_size so_far) so_far bytes begun)
-            ∙ ap (λ p. drop p (so_far ++ bytes)) (sym size) }
+      stated = h.stated ∙ sym (stated-more so_far bytes begun);
+      counted = length-append so_far bytes ∙ counts (length so_far) (prefix_size so_far) d (length bytes) m h.counted count ∙ ap (λ p. p + (d + m)) (sym size);
+      within = within;
+      put = ap₂ (λ k xs. take (d + k) xs) count made
+          ∙ put-more old bytes d (omega (arith, h.within))
+          ∙ ap (λ xs. xs ++ bytes) h.put
+          ∙ sym (drop-append-le (prefix_size so_far) so_far bytes begun)
+          ∙ ap (λ p. drop p (so_far ++ bytes)) (sym size);
+    }
   where
     counts : (a p e b k : ℕ) → a ≡ p + e → k ≡ b → a + b ≡ p + (e + k)
     counts a p e b k g f = omega arith
@@ -159,15 +159,17 @@ Feeds-reads so_far piece (in_prefix bs) old (Length taken n) after new h room f 
     let all : bs ++ part ≡ so_far ++ part = ap (λ xs. xs ++ part) h.0 in
     let stated : n ≡ stated_length (so_far ++ part) = f.0.stated ∙ ap stated_length all in
     let size : length (so_far ++ part) ≡ prefix_size (so_far ++ part) =
-        length-append so_far part ∙ ap₂ (λ x y. x + y) (ap length (sym h.0)) (length-take-le taken piece f.0.within) ∙ f.0.finished ∙ ap prefix_size all in
-    let nothing : drop (prefix_size (so_far ++ part)) (so_far ++ part) ≡ [] = drop_all (prefix_size (so_far ++ part)) (so_far ++ part) (omega arith) in
-    (subst (λ p. Holds (so_far ++ part) p new) (sym f.0.next) (record { stated = stated; counted = omega arith; within = omega arith; put = sym nothing }),
-     λ rest. first_prefix-whole (so_far ++ part) rest (omega arith) ∙ ap₂ (λ m xs. limited m (xs ++ rest)) (sym stated) nothing)
+    length-append so_far part ∙ ap₂ (λ x y. x + y) (ap length (sym h.0)) (length-take-le taken piece f.0.within) ∙ f.0.finished ∙ ap prefix_size all in
+    let nothing : drop (prefix_size (so_far ++ part)) (so_far ++ part) ≡ [] = drop_all (prefix_size (so_far ++ part)) (so_far ++ part) (omega arith) in (
+      subst (λ p. Holds (so_far ++ part) p new) (sym f.0.next) (record { stated = stated; counted = omega arith; within = omega arith; put = sym nothing }),
+      λ rest. first_prefix-whole (so_far ++ part) rest (omega arith) ∙ ap₂ (λ m xs. limited m (xs ++ rest)) (sym stated) nothing,
+    )
 Feeds-reads so_far piece (in_prefix bs) old (Whole taken n) after new h room f = absurd f.0
 Feeds-reads so_far piece (in_string n d) old (More taken) after new h room f =
-    let more = holds-more so_far piece old new n d taken h room f.all_taken (omega (arith, f.unfinished)) f.put in
-    (subst (λ p. Holds (so_far ++ piece) p new) (sym f.next) more,
-     unfinished-string (so_far ++ piece) n (d + taken) more.stated more.counted f.unfinished)
+    let more = holds-more so_far piece old new n d taken h room f.all_taken (omega (arith, f.unfinished)) f.put in (
+      subst (λ p. Holds (so_far ++ piece) p new) (sym f.next) more,
+      unfinished-string (so_far ++ piece) n (d + taken) more.stated more.counted f.unfinished,
+    )
 Feeds-reads so_far piece (in_string n d) old (Length taken k) after new h room f = absurd f
 Feeds-reads so_far piece (in_string n d) old (Whole taken k) after new h room f =
     let e : k ≡ n = f.0 in
@@ -176,5 +178,5 @@ Feeds-reads so_far piece (in_string n d) old (Whole taken k) after new h room f 
     let more = holds-more so_far part old new n d taken h room (sym (length-take-le taken piece ends.within)) (omega (arith, ends.finished)) ends.put in
     let all : HoldsString (so_far ++ part) n n new = subst (λ m. HoldsString (so_far ++ part) n m new) ends.finished more in
     λ limit rest.
-        found-string (so_far ++ part) rest n all.stated all.counted (subst (λ m. m ≤ string_limit) e limit)
-        ∙ ap (λ xs. string_found xs rest) (sym all.put ∙ ap (λ m. take m new) (sym e))
+    found-string (so_far ++ part) rest n all.stated all.counted (subst (λ m. m ≤ string_limit) e limit)
+    ∙ ap (λ xs. string_found xs rest) (sym all.put ∙ ap (λ m. take m new) (sym e))

@@ -1,5 +1,5 @@
 -- One byte of a prefix.
-use Rattle.std.specs.Prelude.{◌≡◌, ℕ, ◌<◌, List, [], ◌∷◌, ◌++◌, length, Option, Some, None}
+use Rattle.std.specs.Prelude.{◌≡◌, ℕ, ◌<◌, List, length, Option, Some, None}
 use Rattle.e57_strings.specs.Progress.{Progress, in_prefix, in_string, prefix_size, stated_length}
 
 -- the prefix isn't whole with this byte either, or states a length

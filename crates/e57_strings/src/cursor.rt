@@ -1,6 +1,6 @@
 //! Strings read from pieces.
 
-ghost use Rattle.std.specs.Prelude.{◌≡◌, ◌+◌, ◌*◌, ◌%◌, ◌^◌, ◌<◌, ◌≤◌, List, [], length, take, slice_index, if◌then◌else◌};
+ghost use Rattle.std.specs.Prelude.{◌≡◌, ◌%◌, ◌^◌, ◌<◌, ◌≤◌, List, [], length, take, slice_index, if◌then◌else◌};
 ghost use Rattle.e57_strings.specs.Progress.{Progress, in_prefix, in_string, begun, IsInPrefix, whole_length, length_taken, IsInString};
 
 use e57_bits::u64_at;

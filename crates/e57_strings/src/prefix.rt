@@ -1,6 +1,6 @@
 //! The prefix of a string as it is written.
 
-ghost use Rattle.std.specs.Prelude.{◌≡◌, ◌≤◌, ◌++◌, nat_le, if◌then◌else◌, ℕ, List, length, take, drop};
+ghost use Rattle.std.specs.Prelude.{◌≡◌, ◌≤◌, ◌++◌, nat_le, if◌then◌else◌, ℕ, List, take, drop};
 ghost use Rattle.e57_layout.specs.Strings.{string_prefix, string_limit, first_prefix, prefix_found};
 
 /// The most bytes of a string whose prefix is one byte.

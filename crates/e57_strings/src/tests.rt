@@ -5,7 +5,11 @@ fn first_string(stream: &[u8], step: usize, out: &mut [u8; 8]) -> Option<(u64, u
     let mut cursor = StringCursor::new();
     let mut at = 0;
     for _ in 0..40 {
-        let end = if stream.len() - at < step { stream.len() } else { at + step };
+        let end = if stream.len() - at < step {
+            stream.len()
+        } else {
+            at + step
+        };
         match cursor.feed(&stream[at..end], out) {
             Fed::More { taken } => at += taken,
             Fed::Length { taken, length } => {
@@ -29,7 +33,10 @@ fn every_cut(rt: HostRuntime) {
         assert!(rt; first_string(&[6, 97, 98, 99, 2], step, &mut out) == Some((3, 4)));
         assert_eq!(rt; out, [97, 98, 99, 9, 9, 9, 9, 9]);
         let mut other = [9u8; 8];
-        assert!(rt; first_string(&[7, 0, 0, 0, 0, 0, 0, 0, 97, 98, 99, 2], step, &mut other) == Some((3, 11)));
+        assert!(rt;
+            first_string(&[7, 0, 0, 0, 0, 0, 0, 0, 97, 98, 99, 2], step, &mut other)
+                == Some((3, 11))
+        );
         assert_eq!(rt; other, [97, 98, 99, 9, 9, 9, 9, 9]);
         assert!(rt; first_string(&[6, 97, 98], step, &mut other).is_none());
     }
@@ -40,7 +47,13 @@ fn long_length(rt: HostRuntime) {
     let mut cursor = StringCursor::new();
     let mut none: [u8; 0] = [];
     assert!(rt; cursor.feed(&[0xff; 5], &mut none) == Fed::More { taken: 5 });
-    assert!(rt; cursor.feed(&[0xff; 5], &mut none) == Fed::Length { taken: 3, length: (1 << 63) - 1 });
+    assert!(rt;
+        cursor.feed(&[0xff; 5], &mut none)
+            == Fed::Length {
+                taken: 3,
+                length: (1 << 63) - 1
+            }
+    );
 }
 
 #[test]

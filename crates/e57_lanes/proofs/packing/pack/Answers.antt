@@ -19,5 +19,5 @@ returns c =
     let after = rw least at c.pack_from-2.ensures in
     packed_all c.args.values.now c.args.min c.args.width c.args.phase c.args.out.now c.pack_from-2.new.out
     (packed-join c.args.values.now c.args.min c.args.width c.args.phase 0 done (length c.args.values.now) c.args.out.now c.pack_blocks.new.out c.pack_from-2.new.out
-        (subst (λ p. PackedBetween c.args.values.now c.args.min c.args.width p 0 done c.args.out.now c.pack_blocks.new.out) (sym begin) blocks)
-        after (omega arith) (omega arith))
+    (subst (λ p. PackedBetween c.args.values.now c.args.min c.args.width p 0 done c.args.out.now c.pack_blocks.new.out) (sym begin) blocks)
+    after (omega arith) (omega arith))

@@ -1,4 +1,4 @@
-use Rattle.std.proofs.Common.{◌≤◌, ◌≡◌, ◌+◌, ◌*◌, arith, length, w64, to_z, of_z}
+use Rattle.std.proofs.Common.{◌≡◌, ◌+◌, ◌*◌, arith, length, w64, to_z, of_z}
 use Rattle.std.proofs.lemmas.Int.{to_z-of_z}
 use Rattle.e57_lanes.proofs.PackedItems.{packed-none, packed_block, room_of}
 use Rattle.e57_lanes.proofs.packing.pack_blocks.Goals as goal

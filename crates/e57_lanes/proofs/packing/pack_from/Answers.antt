@@ -1,4 +1,4 @@
-use Rattle.std.proofs.Common.{◌+◌, ◌*◌, ◌-ℤ◌, ◌∙◌, ap, arith, pos, get_or, FitsSigned, w64, to_z, of_z, rules, length}
+use Rattle.std.proofs.Common.{◌-ℤ◌, ◌∙◌, ap, arith, pos, get_or, FitsSigned, w64, to_z, of_z, rules, length}
 use Rattle.std.proofs.lemmas.Int.{to_z-of_z}
 use Rattle.e57_lanes.proofs.Items.{address}
 use Rattle.e57_lanes.proofs.PackedItems.{packed-none, packed-more, item_room}
@@ -9,8 +9,11 @@ loop-k-init c = packed-none _ _ _ _ _ _
 
 pub pack_bits-requires-clause-room : goal.pack_bits-requires-clause-room
 pack_bits-requires-clause-room c =
-    omega (arith, address c.loop-k.k c.args.width c.args.phase,
-    item_room c.loop-k.k (length c.args.values.now) c.args.width c.args.phase (length c.args.out.now) c.loop-k-test.true c.requires.values.room)
+    omega (
+      arith,
+      address c.loop-k.k c.args.width c.args.phase,
+      item_room c.loop-k.k (length c.args.values.now) c.args.width c.args.phase (length c.args.out.now) c.loop-k-test.true c.requires.values.room,
+    )
 
 pub loop-k-preserved : goal.loop-k-preserved
 loop-k-preserved c =

@@ -1,4 +1,4 @@
-use Rattle.std.proofs.Common.{◌≡◌, ◌≢◌, ℕ, ◌+◌, ◌*◌, ◌^◌, ◌<◌, get_or, w8, ◌∙◌, arith}
+use Rattle.std.proofs.Common.{get_or, w8, ◌∙◌}
 use Rattle.std.proofs.lemmas.Nat.Bits.{bit_at_set_same, bit_at_set_other, bit_at_clear_same, bit_at_clear_other}
 use Rattle.e57_lanes.proofs.Packs.{bit-set_same, one_bit}
 use Rattle.e57_lanes.proofs.packing.put_bit.Goals as goal

@@ -1,5 +1,5 @@
-use Rattle.std.proofs.Common.{◌+◌, ◌*◌, ◌/◌, ◌%◌, ◌^◌, refl, sym, ◌∙◌, arith, bit_and}
-use Rattle.std.proofs.Math.Nat.{mod-one, mod-eq_of_lt}
+use Rattle.std.proofs.Common.{◌+◌, ◌*◌, refl, sym, ◌∙◌, arith}
+use Rattle.std.proofs.Math.Nat.{mod-one}
 use Rattle.e57_bits.specs.BitLaws.{number-zero}
 use Rattle.e57_lanes.proofs.Packs.{byte_more, byte_same, same-join, same_at}
 use Rattle.e57_lanes.proofs.packing.put_bytes.Goals as goal
@@ -12,6 +12,7 @@ loop-i-preserved c =
     let i = c.loop-i.i in
     let at = c.args.at in
     record {
-        put = byte_more c.loop-i.out at i c.args.word c.loop-i.invariant.put (omega arith);
-        others = same-join c.args.out.now c.loop-i.out _ (8 * at) (8 * (at + i)) (8 * (at + (i + 1))) c.loop-i.invariant.others
-            (same_at c.loop-i.out _ (8 * (at + i)) (8 * (at + i + 1)) (8 * (at + i)) (8 * (at + (i + 1))) (byte_same c.loop-i.out (at + i) _) refl (omega arith)) (omega arith) (omega arith) }
+      put = byte_more c.loop-i.out at i c.args.word c.loop-i.invariant.put (omega arith);
+      others = same-join c.args.out.now c.loop-i.out _ (8 * at) (8 * (at + i)) (8 * (at + (i + 1))) c.loop-i.invariant.others
+          (same_at c.loop-i.out _ (8 * (at + i)) (8 * (at + i + 1)) (8 * (at + i)) (8 * (at + (i + 1))) (byte_same c.loop-i.out (at + i) _) refl (omega arith)) (omega arith) (omega arith);
+    }

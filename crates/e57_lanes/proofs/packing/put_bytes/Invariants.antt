@@ -5,5 +5,6 @@ use Rattle.e57_lanes.proofs.packing.put_bytes.Given as goal
 
 abbrev pub invariant-loop-i : goal.invariant-loop-i
 invariant-loop-i l = record {
-    put : number l.out (8 * l.at) (8 * l.i) ≡ l.word % 2 ^ (8 * l.i);
-    others : SameBits (8 * l.at) (8 * (l.at + l.i)) l.initial.out l.out }
+  put : number l.out (8 * l.at) (8 * l.i) ≡ l.word % 2 ^ (8 * l.i);
+  others : SameBits (8 * l.at) (8 * (l.at + l.i)) l.initial.out l.out;
+}

@@ -1,5 +1,4 @@
-use Rattle.std.proofs.Common.{◌≡◌, ◌+◌, ◌*◌, ◌/◌, ◌%◌, ◌<◌, ◌≤◌, ◌⊎◌, ℕ, List, get_or, arith, sym, inl, inr}
-use Rattle.e57_bits.specs.Bits.{number}
+use Rattle.std.proofs.Common.{◌≡◌, ◌+◌, ◌*◌, ◌/◌, ◌%◌, ℕ, arith, sym}
 use Rattle.e57_bits.specs.BitLaws.{number-byte}
 use Rattle.e57_lanes.proofs.Fields.{field, same_eight, in_one}
 use Rattle.e57_lanes.proofs.parts.eight_parts.Goals as goal

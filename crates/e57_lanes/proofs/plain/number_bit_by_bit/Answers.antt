@@ -1,4 +1,4 @@
-use Rattle.std.proofs.Common.{◌+◌, ◌*◌, ◌/◌, ◌%◌, ◌<◌, ◌≤◌, ◌^◌, ◌≡◌, ℕ, List, get_or, sym, ap, ◌∙◌, arith, Fits, subst, lit<}
+use Rattle.std.proofs.Common.{◌+◌, ◌*◌, ◌/◌, ◌%◌, ◌<◌, ◌≤◌, ◌^◌, ◌≡◌, ℕ, List, get_or, sym, ap, ◌∙◌, arith, lit<}
 use Rattle.std.proofs.Math.Nat.{pow-le-pow_right}
 use Rattle.std.proofs.lemmas.Nat.{mod_below}
 use Rattle.e57_bits.specs.Bits.{number, bit}
@@ -27,5 +27,5 @@ loop-j-preserved c =
 pub overflow_add-so_far : goal.overflow_add-so_far
 overflow_add-so_far c =
     let next = one_more c.args.bytes.now (8 * c.args.at + c.args.shift) c.loop-j.j c.loop-j.so_far c.bit_of-bit.result c.loop-j.invariant
-        (read c.args.bytes.now c.args.at c.args.shift c.loop-j.j c.bit_of-bit.result c.bit_of-bit.ensures) (omega arith) in
+    (read c.args.bytes.now c.args.at c.args.shift c.loop-j.j c.bit_of-bit.result c.bit_of-bit.ensures) (omega arith) in
     record { fits = fits c.args.bytes.now (8 * c.args.at + c.args.shift) (c.loop-j.j + 1) _ (omega arith) next }

@@ -1,4 +1,4 @@
-use Rattle.std.proofs.Common.{◌∙◌, ap, arith, ◌+◌, ◌*◌, ◌/◌, ◌%◌}
+use Rattle.std.proofs.Common.{◌∙◌, ap, arith}
 use Rattle.e57_bits.specs.Bits.{number}
 use Rattle.e57_lanes.proofs.Items.{address}
 use Rattle.e57_lanes.proofs.plain.number_of.Goals as goal

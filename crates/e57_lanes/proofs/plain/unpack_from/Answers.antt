@@ -1,4 +1,4 @@
-use Rattle.std.proofs.Common.{◌≤◌, ◌∙◌, ap, arith, ℤ, pos, ◌+ℤ◌, w64, to_z, of_z}
+use Rattle.std.proofs.Common.{◌≤◌, ◌∙◌, ap, pos, ◌+ℤ◌, w64, to_z, of_z}
 use Rattle.std.proofs.lemmas.Int.{to_z-of_z}
 use Rattle.e57_lanes.proofs.Items.{Written-none, Written-more}
 use Rattle.e57_lanes.proofs.plain.unpack_from.Goals as goal

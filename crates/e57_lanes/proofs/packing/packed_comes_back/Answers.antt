@@ -1,0 +1,5 @@
+use Rattle.e57_lanes.specs.PackLaws.{unpacked_packed}
+use Rattle.e57_lanes.proofs.packing.packed_comes_back.Goals as goal
+
+pub returns : goal.returns
+returns c = unpacked_packed
