@@ -106,12 +106,12 @@ with_records count (first ∷ firsts) [] = []
 with_records count (first ∷ firsts) (chunk ∷ chunks) = record { first = first; until = head_or count firsts; packets = chunk } ∷ with_records count firsts chunks
 
 -- the first record of each chunk: that of its entry, or counted by the first Float field where there is no index
-unfoldable pub first_records : List ℕ → Section → Option Fixed → List ℕ
-first_records file s fixed = if s.index == 0 then counted fixed 0 (packets_by_chunk file s) else map (λ (e : Entry). e.first) (entries file s)
+unfoldable pub chunk_firsts : List ℕ → Section → Option Fixed → List ℕ
+chunk_firsts file s fixed = if s.index == 0 then counted fixed 0 (packets_by_chunk file s) else map (λ (e : Entry). e.first) (entries file s)
 
 -- the chunks of a section, whose first Float field is this one
 unfoldable pub chunks : List ℕ → Section → Option Fixed → List Chunk
-chunks file s fixed = with_records s.count (first_records file s fixed) (packets_by_chunk file s)
+chunks file s fixed = with_records s.count (chunk_firsts file s fixed) (packets_by_chunk file s)
 
 -- the first fault of the chunks of a section whose index and packets have none
 unfoldable pub chunks_fault : List ℕ → Section → Option Fixed → Option Fault

@@ -15,7 +15,7 @@ use Rattle.e57_layout.specs.declared.field.Fixed.{Fixed}
 use Rattle.e57_layout.specs.declared.section.Section.{Section}
 use Rattle.e57_sections.specs.Walk.{Packet, walk_from}
 use Rattle.e57_sections.specs.Index.{index_fault, entries}
-use Rattle.e57_sections.specs.Chunks.{cut, compared, data_packets, stream_of, by_chunk, packets_by_chunk, starts_fault, float_items, restarts_fault, unindexed_fault, counted, Chunk, head_or, with_records, first_records, chunks, chunks_fault}
+use Rattle.e57_sections.specs.Chunks.{cut, compared, data_packets, stream_of, by_chunk, packets_by_chunk, starts_fault, float_items, restarts_fault, unindexed_fault, counted, Chunk, head_or, with_records, chunk_firsts, chunks, chunks_fault}
 use Rattle.e57_sections.specs.Cloud.{Leaf, outcome_fault, value_of}
 use Rattle.e57_sections.specs.PathItem.{unless, and_then, chunk_at, answer, item_in, constant_of, item_by, item_of, length_of}
 use Rattle.e57_sections.specs.Laws.Spans.{or-none}
@@ -41,7 +41,7 @@ unindexed-reached file s None (chunk ∷ more) plain has sound = single-reached 
 unindexed-reached file s (Some fixed) (chunk ∷ more) plain has sound = cover-reached file s fixed (s.end - s.data_place) 0 s.data_place chunk more plain has sound (omega arith) (λ i low high. rw plain)
 
 pub are-reached : (file : List ℕ) (s : Section) (fixed : Option Fixed) → IsBodySound file s fixed → AreReached file s fixed (chunks file s fixed)
-unfolding chunks chunks_fault first_records packets_by_chunk
+unfolding chunks chunks_fault chunk_firsts packets_by_chunk
 are-reached file s fixed is =
     let has = walk-pieces file s s.data_place is.packets in
     ⊎_elim
@@ -94,7 +94,7 @@ pieces-follow s fixed [] some sound = absurd (omega arith)
 pieces-follow s fixed (chunk ∷ more) some sound = unindexed-follow s fixed 0 chunk more (omega arith) sound
 
 pub chunks-follow : (file : List ℕ) (s : Section) (fixed : Option Fixed) → IsBodySound file s fixed → Follow 0 s.count (chunks file s fixed)
-unfolding chunks chunks_fault first_records packets_by_chunk
+unfolding chunks chunks_fault chunk_firsts packets_by_chunk
 chunks-follow file s fixed is =
     ⊎_elim
     (λ (plain : (s.index == 0) ≡ true).

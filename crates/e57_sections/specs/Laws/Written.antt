@@ -27,7 +27,7 @@ use Rattle.e57_page.specs.File.{span_fault, logical_size}
 use Rattle.e57_sections.specs.Section.{section_header_fault, section_fault, section_at}
 use Rattle.e57_sections.specs.Walk.{walk_from}
 use Rattle.e57_sections.specs.Index.{index_fault, entries, next_first}
-use Rattle.e57_sections.specs.Chunks.{data_packets, by_chunk, packets_by_chunk, first_records, chunks, chunks_fault}
+use Rattle.e57_sections.specs.Chunks.{data_packets, by_chunk, packets_by_chunk, chunk_firsts, chunks, chunks_fault}
 use Rattle.e57_sections.specs.Cloud.{Leaf, Cloud, float_from, body_fault, cloud_fault, records_of}
 use Rattle.e57_sections.specs.Laws.Columns.{kinds_of, AreFields, fields-found}
 use Rattle.e57_sections.specs.Laws.Spans.{span-right, AreRight}
@@ -137,7 +137,7 @@ has-index : (offset root q : ℕ) → offset ≡ physical root → q + 1 ≤ roo
 has-index offset root q is above = ne_eqb offset 0 (λ none. let whole = physical_is root in omega arith)
 
 pub body-read : (file : List ℕ) (s : Section) (kinds : List ItemKind) (parts : List Block) (fixed : Option Fixed) → HasBody file s kinds parts → IsBody file s kinds parts fixed
-unfolding chunks chunks_fault packets_by_chunk first_records
+unfolding chunks chunks_fault packets_by_chunk chunk_firsts
 body-read file s kinds parts fixed has =
     let idx = body-index file s kinds parts has in
     let of = index-sound file s 4 0 (index_from kinds s.data_place parts) (body_entries kinds s.data_place parts) idx in
