@@ -1,13 +1,13 @@
 -- What the opening of a file's text answers, and what it does to the source.
 use Rattle.std.specs.Prelude.{◌≡◌, ℕ, ◌*◌, ◌/◌, min, ◌⊎◌, Bool, true, false, List, Option, Some, None, IfSome, MatchOption, Result, IfErr, Err}
 use Rattle.e57_base.specs.Count.{Rose}
-use Rattle.e57_base.specs.Source.{SourceView}
+use Rattle.e57_base.specs.Source.{SourceView, page_length}
 use Rattle.e57_base.specs.declared.fault.Fault.{Fault}
 use Rattle.e57_base.specs.declared.fault.OpenFault.{OpenFault}
 use Rattle.e57_base.specs.declared.fault.OpenFault.TheVariants.{Refused, Source, Memory}
 use Rattle.e57_base.specs.declared.kind.Kind.{Kind}
 use Rattle.e57_base.specs.declared.kind.Kind.TheVariants.{XmlPlace, XmlLimit, Page, XmlUtf8, Piece, Nest, TreeLimit}
-use Rattle.e57_page.specs.Place.{span_end}
+use Rattle.e57_page.specs.Place.{payload_length, span_end}
 use Rattle.e57_page.specs.Header.{header_of}
 use Rattle.e57_page.specs.Pages.{Reading, AsksUnkept}
 use Rattle.e57_page.specs.XmlSection.{xml_start, xml_span_fault, xml_section_fault, xml_text}
@@ -31,7 +31,7 @@ IsTextFault file found = (section_fault file ≡ Some found) ⊎ ((section_fault
 -- that was kept.
 abbrev pub AsksForXml : {S : Type 0} → Reading S → SourceView → SourceView → Type 0
 AsksForXml now old new =
-    AsksUnkept now.kept (xml_start now.header / 1020) (min (span_end (xml_start now.header) now.header.xml_length) (now.length / 1024)) old new
+    AsksUnkept now.kept (xml_start now.header / payload_length) (min (span_end (xml_start now.header) now.header.xml_length) (now.length / page_length)) old new
 
 -- a kind of fault of the section's place and length
 abbrev pub is_place_kind : Kind → Bool
@@ -60,7 +60,7 @@ IsPastPlace Memory = Unit {0}
 -- file is as before. Else this is no answer.
 abbrev pub JudgesPlace : {S T : Type 0} → Reading S → Result T OpenFault → Reading S → Type 0
 JudgesPlace old result new =
-    MatchOption (xml_span_fault old.header (old.length / 1024 * 1020)) (IfErr result IsPastPlace) (λ found. (result ≡ Err (Refused found)) × (new ≡ old))
+    MatchOption (xml_span_fault old.header (old.length / page_length * payload_length)) (IfErr result IsPastPlace) (λ found. (result ≡ Err (Refused found)) × (new ≡ old))
 
 -- The text was read, and these are the nodes of the lawful tree that it spells.
 pub record IsTextRead (old : SourceView) (nodes : List RawNode) : Type 0 where

@@ -1,8 +1,10 @@
 -- How a command that shows an open file begins: with the place and the length of its XML section.
 use Rattle.std.specs.Prelude.{◌≡◌, ◌*◌, ◌/◌, false, MatchOption, Result, IfErr, Err}
 use Rattle.e57_base.specs.Sink.{SinkView}
+use Rattle.e57_base.specs.Source.{page_length}
 use Rattle.e57_base.specs.declared.fault.RunFault.{RunFault}
 use Rattle.e57_base.specs.declared.fault.RunFault.TheVariants.{Refused, Source, Out, Memory, Ask}
+use Rattle.e57_page.specs.Place.{payload_length}
 use Rattle.e57_page.specs.Pages.{Reading}
 use Rattle.e57_page.specs.XmlSection.{xml_span_fault}
 use Rattle.e57_file.specs.Text.{is_place_kind}
@@ -19,4 +21,4 @@ IsPastPlace (Ask asked) = Unit {0}
 -- open file is as before. Else this is no answer.
 abbrev pub JudgesPlaceFirst : {S T : Type 0} → Reading S → SinkView → Result T RunFault → Reading S → SinkView → Type 0
 JudgesPlaceFirst old out result new out' =
-    MatchOption (xml_span_fault old.header (old.length / 1024 * 1020)) (IfErr result IsPastPlace) (λ found. (result ≡ Err (Refused found)) × (new ≡ old) × (out' ≡ out))
+    MatchOption (xml_span_fault old.header (old.length / page_length * payload_length)) (IfErr result IsPastPlace) (λ found. (result ≡ Err (Refused found)) × (new ≡ old) × (out' ≡ out))
