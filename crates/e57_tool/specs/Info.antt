@@ -1,9 +1,9 @@
 -- `info FILE`
 use Rattle.std.specs.Prelude.{◌≡◌, ◌⊎◌, ℕ, ◌/◌, ◌≤◌, max, true, ◌||◌, List, [], ◌∷◌, length, Some, None, IfSome}
-use Rattle.e57_base.specs.Source.{SourceView, Asks}
+use Rattle.e57_base.specs.Source.{SourceView, Asks, page_length}
 use Rattle.e57_base.specs.declared.fault.Fault.{Fault}
 use Rattle.e57_page.specs.declared.header.Header.{Header}
-use Rattle.e57_page.specs.Place.{RisesWithin, span_end}
+use Rattle.e57_page.specs.Place.{payload_length, RisesWithin, span_end}
 use Rattle.e57_page.specs.Header.{header_of}
 use Rattle.e57_page.specs.File.{logical_size, opening_fault}
 use Rattle.e57_page.specs.Pages.{is_opening_kind}
@@ -43,7 +43,7 @@ IsFirstAndThen low high pages = (pages ≡ []) ⊎ ((rest : List ℕ) × (pages 
 
 -- nothing, or page 0 and then pages of the XML section
 abbrev pub IsTextAsk : Header → List ℕ → Type 0
-IsTextAsk header = IsFirstAndThen (max 1 (xml_start header / 1020)) (span_end (xml_start header) header.xml_length)
+IsTextAsk header = IsFirstAndThen (max 1 (xml_start header / payload_length)) (span_end (xml_start header) header.xml_length)
 
 -- No other pages were asked for.
 pub record AsksForText (old new : SourceView) : Type 0 where
@@ -51,7 +51,7 @@ pub record AsksForText (old new : SourceView) : Type 0 where
   pub asks : Asks old.asked pages new.asked
   pub stops : StopsAtOpening pages new
   -- pages of the file, told or not
-  pub of_file : (pages ≡ []) ⊎ IfSome new.size (λ size. IsFirstAndThen 1 (size / 1024) pages)
+  pub of_file : (pages ≡ []) ⊎ IfSome new.size (λ size. IsFirstAndThen 1 (size / page_length) pages)
   pub of_text : IfSome new.held (λ file. IsTextAsk (header_of file) pages)
   -- page 0 at most, where the section has no place in the file or is too long
   pub by_place : IfSome new.held (λ file. IfSome (xml_span_fault (header_of file) (logical_size file)) (λ _. length pages ≤ 1))

@@ -2,7 +2,7 @@
 use Rattle.std.specs.Prelude.{◌≡◌, ℕ, ◌/◌, false, List, [], ◌∷◌, length, take, Option, Some, None}
 use Rattle.std.specs.List.{range_with_len}
 use Rattle.std.specs.Option.{option_or}
-use Rattle.e57_base.specs.Source.{Asks}
+use Rattle.e57_base.specs.Source.{Asks, page_length}
 use Rattle.e57_base.specs.declared.fault.Fault.{Fault}
 use Rattle.e57_base.specs.declared.fault.RunFault.TheVariants.{Out}
 use Rattle.e57_page.specs.Header.{header_fault, xml_offset, xml_length}
@@ -16,11 +16,11 @@ use Rattle.e57_tool.specs.Run.{Promise}
 
 -- the first fault of the length, the header and the pages by number
 abbrev pub pages_verdict : List ℕ → Option Fault
-pages_verdict file = option_or (length_fault (length file)) (option_or (header_fault file (length file)) (pages_fault file 0 (length file / 1024)))
+pages_verdict file = option_or (length_fault (length file)) (option_or (header_fault file (length file)) (pages_fault file 0 (length file / page_length)))
 
 -- the line for a file without such a fault
 abbrev pub IsPagesOutput : List ℕ → List ℕ → Type 0
-IsPagesOutput file text = text ≡ pages_line (length file / 1024) (xml_offset file) (xml_length file)
+IsPagesOutput file text = text ≡ pages_line (length file / page_length) (xml_offset file) (xml_length file)
 
 abbrev pub pages_answer : FileAnswer
 pages_answer =
@@ -36,7 +36,7 @@ pages_answer =
 -- the pages of an open file of this length, in the order of asking: page 0 when it is opened, and then every page
 abbrev pub page_order : Option ℕ → List ℕ
 page_order None = []
-page_order (Some size) = 0 ∷ range_with_len 0 (size / 1024)
+page_order (Some size) = 0 ∷ range_with_len 0 (size / page_length)
 
 -- All these pages were asked for, where the file has no fault, else the first so many of them.
 abbrev pub AsksInOrder : PageRule
