@@ -1,0 +1,12 @@
+pub mod Bytes
+pub mod Standing
+pub mod Headers
+pub mod Packets
+pub mod IndexPackets
+pub mod Widths
+pub mod Values
+pub mod Strings
+pub mod Items
+pub mod Packing
+pub mod Written
+pub mod Laws
