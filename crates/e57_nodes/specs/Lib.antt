@@ -3,4 +3,7 @@ pub mod Shape
 pub mod Paths
 pub mod Places
 pub mod Limits
+pub mod Fields
+pub mod Typed
+pub mod Items
 pub mod Laws
