@@ -1,3 +1,4 @@
 -- What holds of the definitions.
 pub mod Decimals
 pub mod Values
+pub mod Places

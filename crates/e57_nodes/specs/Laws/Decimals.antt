@@ -1,5 +1,5 @@
 -- A number written in decimal is read again.
-use Rattle.std.proofs.Common.{◌≡◌, ℕ, suc, ◌+◌, ◌*◌, ◌/◌, ◌%◌, ◌^◌, ◌<◌, ◌≤◌, Bool, true, false, cond, ◌&&◌, not, eqb, ltb, leb, List, [], ◌∷◌, ◌++◌, length, reverse, Option, Some, None, ℤ, pos, negsuc, neg_ℤ, option_map, refl, sym, ap, ◌∙◌, arith, length-append}
+use Rattle.std.proofs.Common.{◌≡◌, ℕ, suc, ◌+◌, ◌*◌, ◌/◌, ◌%◌, ◌^◌, ◌<◌, ◌≤◌, Bool, true, false, cond, ◌&&◌, ◌||◌, not, eqb, ltb, leb, List, [], ◌∷◌, ◌++◌, length, reverse, Option, Some, None, ℤ, pos, negsuc, neg_ℤ, option_map, refl, sym, ap, ◌∙◌, arith, length-append}
 use Rattle.std.proofs.lemmas.List.{reverse-reverse, reverse-append, length-reverse}
 use Rattle.std.proofs.lemmas.Str.{digit_value_digit}
 use Rattle.std.proofs.lemmas.Bool.{lt-ltb, le-ltb, le-leb, ne_eqb}
@@ -8,6 +8,10 @@ use Rattle.std.specs.Fmt.{decimal, signed_decimal}
 use Rattle.std.specs.Int.Signed.{mag}
 use Rattle.std.specs.List.{AllByRecursion, list_all}
 use Rattle.std.specs.Char.{digit_value}
+use Rattle.std.specs.Str.{encode_utf8_all}
+use Rattle.std.proofs.lemmas.Str.{encode_ascii}
+use Rattle.e57_pieces.specs.Characters.{is_character, AreCharacters}
+use Rattle.e57_pieces.specs.Laws.Characters.{or_left, or_right}
 use Rattle.e57_pieces.specs.Words.{is_space, is_decimal, number, number_from}
 use Rattle.e57_nodes.specs.Facts.{without_space, trimmed, when_below, digits_below, signed_from, unsigned_from, signed_in, unsigned_in}
 
@@ -165,3 +169,35 @@ signed_in-decimal (negsuc n) h =
     ap (λ t. signed_from t) (trimmed-tight (45 ∷ decimal (suc n)) (minus_tight (decimal (suc n)) w))
     ∙ signed_from-minus (decimal (suc n))
     ∙ ap (λ o. option_map (λ m. neg_ℤ (pos m)) o) (digits_below-writes (2 ^ 63 + 1) (suc n) (decimal (suc n)) w (decimal_short (suc n) (omega arith)) (omega arith))
+
+-- ---- characters
+
+encoded_digit : (b : ℕ) (bs : List ℕ) → IsDigit b → encode_utf8_all (b ∷ bs) ≡ b ∷ encode_utf8_all bs
+encoded_digit b bs h = let low : b < 128 = omega (arith, h.high) in ap (λ front. front ++ encode_utf8_all bs) (encode_ascii b low)
+
+character_digit : (b : ℕ) → IsDigit b → is_character b ≡ true
+unfolding is_character
+character_digit b h =
+    or_left (marks || graphic || private) supplementary (or_left (marks || graphic) private (or_right marks graphic (both (le-leb 0x20 b (omega (arith, h.low))) (le-leb b 0xD7FF (omega (arith, h.high))))))
+  where
+    marks : Bool
+    marks = eqb b 0x9 || eqb b 0xA || eqb b 0xD
+    graphic : Bool
+    graphic = leb 0x20 b && leb b 0xD7FF
+    private : Bool
+    private = leb 0xE000 b && leb b 0xFFFD
+    supplementary : Bool
+    supplementary = leb 0x10000 b && leb b 0x10FFFF
+    both : {p q : Bool} → p ≡ true → q ≡ true → (p && q) ≡ true
+    both e f = rw (e, f) refl
+
+-- Digits are characters.
+pub AreCharacters-digits : (bytes : List ℕ) → AreDigits bytes → AreCharacters bytes
+AreCharacters-digits bytes h = record { numbers = bytes; each = each bytes h; spelled = spelled bytes h }
+  where
+    each : (bs : List ℕ) → AreDigits bs → AllByRecursion (λ c. is_character c ≡ true) bs
+    each [] h = tt
+    each (b ∷ bs) h = (character_digit b h.0, each bs h.1)
+    spelled : (bs : List ℕ) → AreDigits bs → encode_utf8_all bs ≡ bs
+    spelled [] h = refl
+    spelled (b ∷ bs) h = encoded_digit b bs h.0 ∙ ap (λ rest. b ∷ rest) (spelled bs h.1)
