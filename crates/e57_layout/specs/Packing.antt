@@ -1,6 +1,7 @@
 -- How records are cut into chunks, chunks into groups, and groups put into packets. How a writer cuts is free in the
 -- standard; these rules are ours.
-use Rattle.std.specs.Prelude.{ℕ, zero, suc, ◌+◌, ◌-◌, ◌*◌, ◌==◌, nat_le, min, Bool, if◌then◌else◌, List, [], ◌∷◌, ◌++◌, length, map, take, drop, Option, Some, None}
+use Rattle.std.specs.Prelude.{ℕ, zero, suc, ◌+◌, ◌-◌, ◌*◌, ◌==◌, nat_le, min, Bool, if◌then◌else◌, List, [], ◌∷◌, ◌++◌, length, map, take, drop, slice_index_or, Option, Some, None}
+use Rattle.std.specs.List.{flat_map}
 use Rattle.e57_layout.specs.Packets.{total, data_size}
 use Rattle.e57_layout.specs.Values.{ItemKind, Value}
 use Rattle.e57_layout.specs.Items.{field_bytes}
@@ -50,6 +51,10 @@ unfoldable pub join_streams : List (List ℕ) → List (List ℕ) → List (List
 join_streams [] later = later
 join_streams (s ∷ streams) [] = s ∷ streams
 join_streams (s ∷ streams) (t ∷ later) = (s ++ t) ∷ join_streams streams later
+
+-- stream f of packets, or of groups, one after another
+abbrev pub stream_over : ℕ → List (List (List ℕ)) → List ℕ
+stream_over f parts = flat_map (λ (streams : List (List ℕ)). slice_index_or streams f []) parts
 
 -- ---- packets
 
