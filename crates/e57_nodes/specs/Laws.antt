@@ -3,3 +3,4 @@ pub mod Decimals
 pub mod Values
 pub mod Places
 pub mod Sound
+pub mod Stated
