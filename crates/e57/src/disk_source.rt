@@ -73,4 +73,9 @@ impl<R: Files<File = File>> Source for DiskSource<'_, R> {
         self.faults = self.faults.saturating_add(1);
         Err(Failed)
     }
+
+    fn read_rest(&mut self, _out: &mut [u8; 1024]) -> Result<(), Failed> {
+        self.faults = self.faults.saturating_add(1);
+        Err(Failed)
+    }
 }

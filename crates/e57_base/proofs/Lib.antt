@@ -1,2 +1,3 @@
 mod NamedFiles
+mod Rest
 mod TornPage

@@ -1,6 +1,9 @@
 pub mod Count
 pub mod Kind
+pub mod Fault
+pub mod Told
 pub mod Source
+pub mod Opening
 pub mod Target
 pub mod Sink
 pub mod Calls

@@ -10,7 +10,7 @@ use Rattle.std.proofs.lemmas.Map.Text.{is_eq-slice_cmp}
 use Rattle.std.specs.Coded.{Coded, code_by, coded×, coded_list, coded_option, coded_bool, coded_ℕ}
 use Rattle.e57_base.specs.Calls.{CallList, no_calls, is_failing, called, raised_if}
 use Rattle.e57_base.specs.Count.{raised}
-use Rattle.e57_base.specs.Source.{Stock, SourceView, HoldsSize, page_of}
+use Rattle.e57_base.specs.Source.{Stock, SourceView, HoldsSize, page_of, rest_of}
 
 pub record SourceState : Type 0 where
   -- the files that it has
@@ -85,6 +85,10 @@ after_read source n =
 -- what `read_page` of page n leaves in the buffer: the page, or what was there where the call fails
 abbrev pub page_left : SourceState → ℕ → List ℕ → List ℕ → List ℕ
 page_left source n file before = if is_failing source.calls then before else page_of file n
+
+-- the same of `read_rest`
+abbrev pub rest_left : SourceState → List ℕ → List ℕ → List ℕ
+rest_left source file before = if is_failing source.calls then before else rest_of file
 
 -- what is held is as long as the open file
 pub source_holds_size : (source : SourceState) → HoldsSize (source_view source)

@@ -1,5 +1,5 @@
 -- What a source of files tells, and what its calls do to it.
-use Rattle.std.specs.Prelude.{◌≡◌, ℕ, ◌*◌, ◌/◌, ◌<◌, ◌≤◌, Bool, true, false, if◌then◌else◌, List, [], ◌∷◌, ◌++◌, length, take, drop, Option, Some, None, is_none, IfSome, IsSomeAnd, Result, IsErr, OnOk, OnErr}
+use Rattle.std.specs.Prelude.{◌≡◌, ℕ, ◌-◌, ◌*◌, ◌/◌, ◌%◌, ◌<◌, ◌≤◌, ◌≢◌, Bool, true, false, if◌then◌else◌, List, [], ◌∷◌, ◌++◌, length, take, drop, replicate, Option, Some, None, is_none, IfSome, IsSomeAnd, Result, IsErr, OnOk, OnErr}
 use Rattle.std.specs.Result.{result_ok}
 use Rattle.std.specs.Ordering.{nat_cmp}
 use Rattle.std.specs.Cmp.Lexicographic.{slice_cmp}
@@ -60,6 +60,16 @@ HasPage source n = IsSomeAnd source.size (λ size. n < size / 1024)
 abbrev pub page_of : List ℕ → ℕ → List ℕ
 page_of file n = take 1024 (drop (1024 * n) file)
 
+-- the file's length is no multiple of 1024
+abbrev pub HasRest : SourceView → Type 0
+HasRest source = IsSomeAnd source.size (λ size. size % 1024 ≢ 0)
+
+-- the bytes of a file behind its whole pages, and zeros behind them, 1024 bytes in all
+abbrev pub rest_of : List ℕ → List ℕ
+rest_of file =
+    let rest = drop (length file / 1024 * 1024) file in
+    rest ++ replicate (1024 - length rest) 0
+
 -- The file that is open stays, and so do the stock and the counts of opens.
 pub record SameFile (old new : SourceView) : Type 0 where
   pub stock : new.stock ≡ old.stock
@@ -79,6 +89,14 @@ pub record ReadsPage {T : Type 0} (old : SourceView) (n : ℕ) (page : List ℕ)
   pub same : SameFile old new
   pub asked : Asks old.asked (n ∷ []) new.asked
   pub read : OnOk result (IfSome old.held (λ file. page ≡ page_of file n))
+  pub faults : old.faults ≤ new.faults
+  pub cause : OnErr result (Rose old.faults new.faults)
+
+-- `read_rest`; in the log it stands as the page that the rest begins
+pub record ReadsRest {T : Type 0} (old : SourceView) (rest : List ℕ) (result : Result T Failed) (new : SourceView) : Type 0 where
+  pub same : SameFile old new
+  pub asked : IfSome old.size (λ size. Asks old.asked (size / 1024 ∷ []) new.asked)
+  pub read : OnOk result (IfSome old.held (λ file. rest ≡ rest_of file))
   pub faults : old.faults ≤ new.faults
   pub cause : OnErr result (Rose old.faults new.faults)
 

@@ -1,11 +1,11 @@
 //! A source of one file in memory.
 
 ghost use Rattle.std.specs.Prelude.{◌≡◌, length, IsOkAnd, IsOk};
-ghost use Rattle.e57_base.specs.Source.{Opens, HasPage, ReadsPage, page_of};
+ghost use Rattle.e57_base.specs.Source.{Opens, HasPage, ReadsPage, HasRest, ReadsRest, page_of, rest_of};
 ghost use Rattle.e57_base.specs.BytesSource.{initial_bytes, bytes_view, after_open, bytes_hold_size};
 
 use crate::fault::Failed;
-use crate::page::copy_page;
+use crate::page::{copy_page, copy_rest};
 use crate::source::Source;
 use std::marker::Model;
 
@@ -69,6 +69,18 @@ impl Source for BytesSource {
         ensures after { self.new ≡ self.old }
     {
         copy_page(&self.bytes, n, out);
+        Ok(())
+    }
+
+    /// Reads the bytes of the file behind its whole pages.
+    fn read_rest(&mut self, out: &mut [u8; 1024]) -> Result<(), Failed>
+        requires { HasRest (bytes_view self.old) }
+        ensures reads { ReadsRest (bytes_view self.old) out.new result (bytes_view self.new) }
+        ensures answer { IsOk result }
+        ensures rest { out.new ≡ rest_of self.old.bytes }
+        ensures after { self.new ≡ self.old }
+    {
+        copy_rest(&self.bytes, out);
         Ok(())
     }
 

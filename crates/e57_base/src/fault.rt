@@ -14,6 +14,18 @@ pub struct Fault {
     pub b: u64,
 }
 
+impl Fault {
+    ghost use Rattle.std.specs.Prelude.{◌≡◌};
+    ghost use Rattle.e57_base.specs.Fault.{fault};
+
+    /// The fault of this kind with these two numbers.
+    pub fn new(kind: Kind, a: u64, b: u64) -> Fault
+        ensures { result ≡ fault kind a b }
+    {
+        Fault { kind, a, b }
+    }
+}
+
 /// How a read of a file's pages fails.
 #[derive(Clone, Copy, Debug, PartialEq, Eq)]
 pub enum ReadFault {
@@ -63,6 +75,38 @@ pub enum WriteFault {
     Memory,
 }
 
+/// Why a file doesn't have what was asked for of it. `asked` is the number that was asked for, or the place of what is at
+/// fault, and `have` is how many the file has, or the limit.
+#[derive(Clone, Copy, Debug, PartialEq, Eq)]
+pub enum AskFault {
+    /// The file has fewer clouds.
+    Cloud { asked: u64, have: u64 },
+    /// The file has fewer blobs.
+    Blob { asked: u64, have: u64 },
+    /// The cloud has fewer fields.
+    Field { asked: u64, have: u64 },
+    /// The field of a test isn't among the cloud's fields.
+    Keep { asked: u64, have: u64 },
+    /// The field of a test has no integers.
+    NotInteger { asked: u64, have: u64 },
+    /// The cloud has fewer records.
+    Range { asked: u64, have: u64 },
+    /// The field's scale or offset is no decimal number that can be computed with.
+    Decimal { asked: u64, have: u64 },
+    /// The two files can't be joined.
+    Clash { asked: u64, have: u64 },
+    /// The file is too long.
+    Length { asked: u64, have: u64 },
+    /// The first row isn't the list of names.
+    Header { asked: u64, have: u64 },
+    /// A row has another number of cells than there are columns.
+    Width { asked: u64, have: u64 },
+    /// A cell isn't of its column's form.
+    Cell { asked: u64, have: u64 },
+    /// The new file would pass the format's limit.
+    Large,
+}
+
 /// How a command of the program fails.
 #[derive(Clone, Copy, Debug, PartialEq, Eq)]
 pub enum RunFault {
@@ -74,4 +118,6 @@ pub enum RunFault {
     Out,
     /// Memory ran out.
     Memory,
+    /// What was asked for can't be had of the file.
+    Ask(AskFault),
 }

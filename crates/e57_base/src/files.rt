@@ -29,7 +29,7 @@ impl NamedFile {
 }
 
 /// The place of the file of this name.
-pub fn place_of(files: &[NamedFile], name: &str) -> Option<usize>
+pub fn index_of(files: &[NamedFile], name: &str) -> Option<usize>
     ensures within { IfSome result (λ place. place < length files.now) }
     ensures found { bytes_at files.now result ≡ get (stock_of files.now) name.now }
 {

@@ -5,6 +5,8 @@
 mod bytes_source;
 mod calls;
 mod fault;
+mod fault_from;
+mod fault_text;
 mod files;
 mod kind;
 mod mem_sink;
@@ -18,7 +20,9 @@ mod source;
 mod target;
 
 pub use bytes_source::BytesSource;
-pub use fault::{Failed, Fault, OpenFault, PutFault, ReadFault, RunFault, TextFault, WriteFault};
+pub use fault::{
+    AskFault, Failed, Fault, OpenFault, PutFault, ReadFault, RunFault, TextFault, WriteFault,
+};
 pub use kind::Kind;
 pub use mem_sink::MemSink;
 pub use mem_source::MemSource;

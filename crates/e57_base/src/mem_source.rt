@@ -1,17 +1,18 @@
 //! A source of files in memory.
 
-ghost use Rattle.std.specs.Prelude.{◌≡◌, ℕ, List, ◌<◌, length, not, is_ok, IfSome, IsNone, OnOk, OnErr, IfOk};
+ghost use Rattle.std.specs.Prelude.{◌≡◌, ℕ, List, ◌<◌, ◌≤◌, ◌/◌, ◌&&◌, [], ◌∷◌, ◌++◌, if◌then◌else◌, nat_lt, length, not, is_ok, IfSome, IsNone, OnOk, OnErr, IfOk};
 ghost use Rattle.std.specs.Option.{option_map};
+ghost use Rattle.std.specs.Vec.{vec_capacity};
 ghost use Rattle.std.specs.Result.{result_ok};
 ghost use Rattle.std.specs.FinMap.{get};
 ghost use Rattle.e57_base.specs.Calls.{is_failing, failing_at};
-ghost use Rattle.e57_base.specs.Source.{Opens, HasPage, ReadsPage};
-ghost use Rattle.e57_base.specs.MemSource.{initial_source, source_view, with_file, file_opened, after_open, after_read, page_left, source_holds_size};
+ghost use Rattle.e57_base.specs.Source.{Opens, HasPage, ReadsPage, HasRest, ReadsRest};
+ghost use Rattle.e57_base.specs.MemSource.{initial_source, source_view, with_file, file_opened, after_open, after_read, page_left, rest_left, source_holds_size};
 
 use crate::calls::Calls;
 use crate::fault::Failed;
-use crate::files::{NamedFile, place_of, size_at};
-use crate::page::copy_page;
+use crate::files::{NamedFile, index_of, size_at};
+use crate::page::{copy_page, copy_rest};
 use crate::source::Source;
 use std::alloc::{AllocError, Global};
 use std::marker::Model;
@@ -117,7 +118,7 @@ impl Source for MemSource {
         let is_failing = self.calls.count();
         self.opened = self.opened.saturating_add(1);
         self.current = None;
-        let Some(place) = place_of(&self.files, name) else {
+        let Some(place) = index_of(&self.files, name) else {
             self.missed = self.missed.saturating_add(1);
             self.faults = self.faults.saturating_add(1);
             return Err(Failed);
@@ -139,11 +140,7 @@ impl Source for MemSource {
         ensures page { IfSome self.old.held (λ file. out.new ≡ page_left self.old n file out.old) }
         ensures after { self.new ≡ after_read self.old n }
     {
-        if self.log.len() < self.log_room {
-            self.log.push_reserved(n);
-        } else {
-            self.is_log_whole = false;
-        }
+        write_log(&mut self.log, self.log_room, &mut self.is_log_whole, n);
         if self.calls.count() {
             self.faults = self.faults.saturating_add(1);
             return Err(Failed);
@@ -154,5 +151,48 @@ impl Source for MemSource {
         Ok(())
     }
 
+    /// Reads the bytes of the open file behind its whole pages. It fails where the call is listed, and then leaves
+    /// `out` as it was. In the log it stands as the page that the rest begins.
+    #[tactic(auto, unfolding(crate::specs::MemSource::after_read))]
+    fn read_rest(&mut self, out: &mut [u8; 1024]) -> Result<(), Failed>
+        requires { HasRest (source_view self.old) }
+        ensures reads { ReadsRest (source_view self.old) out.new result (source_view self.new) }
+        ensures answer { is_ok result ≡ not (is_failing self.old.calls) }
+        ensures rest { IfSome self.old.held (λ file. out.new ≡ rest_left self.old file out.old) }
+        ensures after { IfSome self.old.held (λ file. self.new ≡ after_read self.old (length file / 1024)) }
+    {
+        let Some(at) = self.current else {
+            return Err(Failed);
+        };
+        let whole_pages = size_at(&self.files, at) / 1024;
+        write_log(
+            &mut self.log,
+            self.log_room,
+            &mut self.is_log_whole,
+            whole_pages,
+        );
+        let is_listed = self.calls.count();
+        if is_listed {
+            self.faults = self.faults.saturating_add(1);
+            return Err(Failed);
+        }
+        copy_rest(&self.files[at].bytes, out);
+        Ok(())
+    }
+
     ghost holds_size = { source_holds_size };
+}
+
+// Writes page `n` into a log that takes so many, where there is room. Else the log isn't whole any more.
+fn write_log(log: &mut Vec<u64>, room: usize, is_whole: &mut bool, n: u64)
+    requires { room ≤ vec_capacity log.old }
+    ensures pages { log.new.items ≡ (if nat_lt (length log.old.items) room then log.old.items ++ n ∷ [] else log.old.items) }
+    ensures whole { is_whole.new ≡ (is_whole.old && nat_lt (length log.old.items) room) }
+    ensures capacity { vec_capacity log.old ≤ vec_capacity log.new }
+{
+    if log.len() < room {
+        log.push_reserved(n);
+    } else {
+        *is_whole = false;
+    }
 }

@@ -1,6 +1,9 @@
 //! The objects in memory on their happy paths, each with one failing call.
 
-use crate::{BytesSource, Failed, MemSink, MemSource, MemTarget, Sink, Source, Target};
+use crate::{
+    AskFault, BytesSource, Failed, Fault, Kind, MemSink, MemSource, MemTarget, RunFault, Sink,
+    Source, Target,
+};
 use std::alloc::{AllocError, Global};
 use std::test::Fail;
 
@@ -21,9 +24,15 @@ fn is_all(page: &[u8; 1024], byte: u8) -> bool {
     page.iter().all(|b| *b == byte)
 }
 
+// Three ones, and then zeros.
+fn ends_with_ones(page: &[u8; 1024]) -> bool {
+    let (rest, zeros) = page.split_at(3);
+    rest.iter().all(|b| *b == 1) && zeros.iter().all(|b| *b == 0)
+}
+
 #[test]
 fn reads_files(rt: HostRuntime) -> Result<(), Fail> {
-    let mut source = MemSource::new(rt.alloc(), 3)?;
+    let mut source = MemSource::new(rt.alloc(), 5)?;
     source.add("scan.e57", two_pages(rt.alloc())?)?;
     source.fail_at(1)?;
     source.fail_at(3)?;
@@ -42,7 +51,9 @@ fn reads_files(rt: HostRuntime) -> Result<(), Fail> {
     source.read_page(0, &mut page)?;
     assert!(rt; is_all(&page, 7));
     source.read_page(1, &mut page)?;
-    assert_eq!(rt; source.asked(), [0, 1, 0].as_slice());
+    source.read_rest(&mut page)?;
+    assert!(rt; ends_with_ones(&page));
+    assert_eq!(rt; source.asked(), [0, 1, 0, 1, 2].as_slice());
     Ok(())
 }
 
@@ -54,6 +65,8 @@ fn reads_bytes(rt: HostRuntime) -> Result<(), Fail> {
     let mut page = page_of(0);
     source.read_page(1, &mut page)?;
     assert!(rt; is_all(&page, 9));
+    source.read_rest(&mut page)?;
+    assert!(rt; ends_with_ones(&page));
     assert_eq!(rt; source.into_bytes().len(), 2051);
     Ok(())
 }
@@ -95,6 +108,25 @@ fn puts_pieces(rt: HostRuntime) -> Result<(), Fail> {
     ] {
         assert_eq!(rt; sink.put(piece.as_bytes()), answer, "at {piece}");
         assert_eq!(rt; sink.bytes(), bytes.as_bytes());
+    }
+    Ok(())
+}
+
+#[test]
+fn says_faults(rt: HostRuntime) -> Result<(), Fail> {
+    for (fault, text) in [
+        (RunFault::Refused(Fault::new(Kind::Page, 3, 0)), "Page 3 0"),
+        (RunFault::Source, "the source failed"),
+        (RunFault::Out, "the output failed"),
+        (RunFault::Memory, "out of memory"),
+        (
+            RunFault::Ask(AskFault::Range { asked: 9, have: 7 }),
+            "range 9 7",
+        ),
+        (RunFault::Ask(AskFault::Large), "large"),
+    ] {
+        let said = format!(in rt.alloc(); "{fault}")?;
+        assert_eq!(rt; said.as_str(), text);
     }
     Ok(())
 }

@@ -9,14 +9,14 @@ use Rattle.e57_pieces.specs.declared.piece.Piece.TheVariants.{Start, Empty, End,
 use Rattle.e57_elements.specs.declared.tree.RawNode.{RawNode}
 use Rattle.e57_elements.specs.declared.builder.Mark.{Mark}
 use Rattle.e57_elements.specs.declared.builder.Builder.{Builder}
-use Rattle.e57_elements.specs.declared.builder.Stop.{Stop}
-use Rattle.e57_elements.specs.declared.builder.Stop.TheVariants.{Nest, Limit, Memory}
+use Rattle.e57_elements.specs.declared.builder.TakeFault.{TakeFault}
+use Rattle.e57_elements.specs.declared.builder.TakeFault.TheVariants.{Nest, Limit, Memory}
 use Rattle.e57_elements.specs.Tree.{Element, element, none, preorder, preorder_all}
 use Rattle.e57_elements.specs.Nested.{only_space}
 use Rattle.e57_elements.specs.Fault.{limit}
 use Rattle.e57_elements.specs.Machine.{Open, State, reading, done, begin, with_text, ended, put, open_node, nodes_of}
 use Rattle.e57_elements.specs.Builder.{Keeps, Takes, Admits, mark_of, marks_of, ended_node}
-use Rattle.e57_elements.proofs.Limits.{limit_none, limit_within}
+use Rattle.e57_elements.proofs.Within.{limit_none, limit_within}
 use Rattle.e57_elements.proofs.Nodes.{put_nodes, put_marks, put_done, length-marks_of, ended_is}
 use Rattle.e57_elements.proofs.Lists.{snoc_same, snoc_some}
 
@@ -52,7 +52,7 @@ admits_ok (done d) b n h e f g k = let l = h.done in cc
 -- ---- tags
 
 -- a tag that isn't admitted
-pub start_refused : (s : State) (name : List ℕ) (attrs : List Attr) (stop : Stop) (new : Builder) → Admits {T = Unit {0}} s (length attrs) (Err stop) → Takes {T = Unit {0}} s (Start name attrs) (Err stop) new
+pub start_refused : (s : State) (name : List ℕ) (attrs : List Attr) (stop : TakeFault) (new : Builder) → Admits {T = Unit {0}} s (length attrs) (Err stop) → Takes {T = Unit {0}} s (Start name attrs) (Err stop) new
 start_refused (reading opens) name attrs Nest new h = absurd h
 start_refused (reading opens) name attrs (Limit b) new h = (reading (begin name attrs ∷ opens), refl, h)
 start_refused (reading opens) name attrs Memory new h = absurd h
@@ -60,7 +60,7 @@ start_refused (done e) name attrs Nest new h = refl
 start_refused (done e) name attrs (Limit b) new h = absurd h
 start_refused (done e) name attrs Memory new h = absurd h
 
-pub empty_refused : (s : State) (name : List ℕ) (attrs : List Attr) (stop : Stop) (new : Builder) → Admits {T = Unit {0}} s (length attrs) (Err stop) → Takes {T = Unit {0}} s (Empty name attrs) (Err stop) new
+pub empty_refused : (s : State) (name : List ℕ) (attrs : List Attr) (stop : TakeFault) (new : Builder) → Admits {T = Unit {0}} s (length attrs) (Err stop) → Takes {T = Unit {0}} s (Empty name attrs) (Err stop) new
 empty_refused (reading opens) name attrs Nest new h = absurd h
 empty_refused (reading opens) name attrs (Limit b) new h = (put (element name attrs [] none) opens, refl, h)
 empty_refused (reading opens) name attrs Memory new h = absurd h
@@ -201,6 +201,6 @@ text_takes (done d) b new len read text grown h l some at_last is_grown nodes ma
 
 -- ---- what `?` hands on
 
-pub refusal_on : (s : State) (piece : Piece) (r : Result (Unit {0}) Stop) (stop : Stop) (new : Builder) → IsErrAnd r (λ e. e ≡ stop) → Takes {T = Unit {0}} s piece (Err stop) new → Takes s piece r new
+pub refusal_on : (s : State) (piece : Piece) (r : Result (Unit {0}) TakeFault) (stop : TakeFault) (new : Builder) → IsErrAnd r (λ e. e ≡ stop) → Takes {T = Unit {0}} s piece (Err stop) new → Takes s piece r new
 refusal_on s piece (Ok x) stop new h t = absurd h
 refusal_on s piece (Err e) stop new h t = subst (λ x. Takes {T = Unit {0}} s piece (Err x) new) (sym h) t

@@ -4,10 +4,11 @@ use Rattle.std.specs.List.{AllByRecursion}
 use Rattle.e57_pieces.specs.declared.piece.Piece.{Piece}
 use Rattle.e57_pieces.specs.declared.piece.Piece.TheVariants.{Start, Empty, End, Comment, CData, Text}
 use Rattle.e57_elements.specs.declared.tree.RawNode.{RawNode}
+use Rattle.e57_elements.specs.Limits.{max_elements}
 use Rattle.e57_elements.specs.Tree.{Element, element, Elements, none, more, preorder, preorder_all, depth, depth_all}
 use Rattle.e57_elements.specs.Fault.{begun, opened, closed, total, open_after, limit, passes}
 use Rattle.e57_elements.specs.Machine.{Open, State, reading, done, join, begin, ended, put, step, run, open_node, nodes_of, state_nodes, state_depth, passes_in}
-use Rattle.e57_elements.proofs.Limits.{limit_none}
+use Rattle.e57_elements.proofs.Within.{limit_none, limit_within}
 use Rattle.e57_elements.proofs.Nodes.{put_nodes}
 use Rattle.e57_elements.proofs.Runs.{run-append, run-none}
 use Rattle.e57_elements.proofs.Lists.{all-parts, all-joined}
@@ -40,6 +41,24 @@ counts = record {
   space_before = λ text h. record { depths = refl; nodes = omega arith };
   space_after = λ text e h. record { depths = refl; nodes = omega arith };
 }
+
+grown : (s : State) (x : Piece) (t : State) → step s x ≡ Some t → begun x + length (state_nodes s) ≡ length (state_nodes t)
+grown s x t e = (by_steps Counts counts s x t e).nodes
+
+-- a piece that passes no limit leads to no more elements than there may be
+pub few_after : (s : State) (x : Piece) (t : State) → step s x ≡ Some t → passes_in s x ≡ None → length (state_nodes s) ≤ max_elements → length (state_nodes t) ≤ max_elements
+few_after s (Start name attrs) t e fits few =
+    let g = grown s (Start name attrs) t e in
+    let w = (limit_within (length attrs) (state_depth s + 1) (length (state_nodes s) + 1) fits).place in
+    omega arith
+few_after s (Empty name attrs) t e fits few =
+    let g = grown s (Empty name attrs) t e in
+    let w = (limit_within (length attrs) (state_depth s + 1) (length (state_nodes s) + 1) fits).place in
+    omega arith
+few_after s (End name) t e fits few = let g = grown s (End name) t e in omega arith
+few_after s Comment t e fits few = let g = grown s Comment t e in omega arith
+few_after s (CData text) t e fits few = let g = grown s (CData text) t e in omega arith
+few_after s (Text text) t e fits few = let g = grown s (Text text) t e in omega arith
 
 -- over a run
 record Counted (s : State) (xs : List Piece) (t : State) : Type 0 where

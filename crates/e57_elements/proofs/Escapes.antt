@@ -6,7 +6,7 @@ use Rattle.std.proofs.lemmas.Str.{encode_ascii}
 use Rattle.std.specs.List.{AllByRecursion}
 use lib.Utf8.{encode, encodes, next}
 use Rattle.e57_pieces.specs.Characters.{is_character, AreCharacters}
-use Rattle.e57_pieces.specs.Words.{is_decimal, is_plain, number, number_from}
+use Rattle.e57_pieces.specs.Words.{is_decimal, is_plain, numeral, numeral_from}
 use Rattle.e57_pieces.specs.Grammar.{IsReference, IsPart, Means}
 use Rattle.e57_pieces.specs.Laws.Characters.{AreCharacters-append, AreCharacters-nil, tested, and_true}
 use Rattle.e57_pieces.specs.Laws.References.{Means-append, Means-nil, Means-part}
@@ -26,11 +26,11 @@ unfolding is_plain
 plain_byte quote b e f g = none_of_three (eqb b 60) (eqb b 38) (eqb b quote) e f g
 
 -- a reference by number, with two digits and with one
-two_digits : (b d e : ℕ) → is_decimal d ≡ true → is_decimal e ≡ true → b ≡ number 10 (d ∷ e ∷ []) → is_character b ≡ true → IsReference (codes "&#" ++ (d ∷ e ∷ []) ++ codes ";") b
+two_digits : (b d e : ℕ) → is_decimal d ≡ true → is_decimal e ≡ true → b ≡ numeral 10 (d ∷ e ∷ []) → is_character b ≡ true → IsReference (codes "&#" ++ (d ∷ e ∷ []) ++ codes ";") b
 two_digits b d e f g is character =
     inr (inl (record { digits = d ∷ e ∷ []; each = (f, (g, tt)); some = omega arith; few = omega arith; value = is; character = character; spelled = refl }))
 
-one_digit : (b d : ℕ) → is_decimal d ≡ true → b ≡ number 10 (d ∷ []) → is_character b ≡ true → IsReference (codes "&#" ++ (d ∷ []) ++ codes ";") b
+one_digit : (b d : ℕ) → is_decimal d ≡ true → b ≡ numeral 10 (d ∷ []) → is_character b ≡ true → IsReference (codes "&#" ++ (d ∷ []) ++ codes ";") b
 one_digit b d f is character =
     inr (inl (record { digits = d ∷ []; each = (f, tt); some = omega arith; few = omega arith; value = is; character = character; spelled = refl }))
 
@@ -38,15 +38,15 @@ character_at : (b c : ℕ) → b ≡ c → is_character c ≡ true → is_charac
 character_at b c e h = ap is_character e ∙ h
 
 return : (b : ℕ) → b ≡ 13 → IsReference (codes "&#13;") b
-unfolding is_decimal is_character number_from
+unfolding is_decimal is_character numeral_from
 return b e = two_digits b 49 51 refl refl e (character_at b 13 e refl)
 
 feed : (b : ℕ) → b ≡ 10 → IsReference (codes "&#10;") b
-unfolding is_decimal is_character number_from
+unfolding is_decimal is_character numeral_from
 feed b e = two_digits b 49 48 refl refl e (character_at b 10 e refl)
 
 tab : (b : ℕ) → b ≡ 9 → IsReference (codes "&#9;") b
-unfolding is_decimal is_character number_from
+unfolding is_decimal is_character numeral_from
 tab b e = one_digit b 57 refl e (character_at b 9 e refl)
 
 -- a reference to an ASCII character means its byte

@@ -9,7 +9,7 @@ use Rattle.e57_elements.specs.Tree.{Element, element, Elements, none, more, preo
 use Rattle.e57_elements.specs.Nested.{only_space, kept}
 use Rattle.e57_elements.specs.Lawful.{IsLawfulNode}
 use Rattle.e57_elements.specs.Machine.{Open, State, reading, done, begin, ended, put, step, open_node, nodes_of, state_nodes, passes_in}
-use Rattle.e57_elements.proofs.Limits.{limit_within}
+use Rattle.e57_elements.proofs.Within.{limit_within}
 use Rattle.e57_elements.proofs.Nodes.{put_nodes}
 use Rattle.e57_elements.proofs.Steps.{Steps, by_steps}
 use Rattle.e57_elements.proofs.Counts.{peak, peaks, put_peak}

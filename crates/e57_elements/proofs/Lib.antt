@@ -3,7 +3,7 @@ mod Steps
 mod Runs
 mod Represents
 mod Nodes
-mod Limits
+mod Within
 mod Builds
 mod Writing
 mod Elements
@@ -12,7 +12,9 @@ mod Spelled
 mod Counts
 mod Characters
 mod Lawful
+mod Led
 mod Reached
+mod SomeAnswer
 mod OneAnswer
 mod Makes
 mod Sets

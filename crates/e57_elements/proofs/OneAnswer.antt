@@ -3,6 +3,7 @@ use Rattle.std.proofs.Common.{◌≡◌, ℕ, ◌-◌, ◌≤◌, ◌⊎◌, Lis
 use Rattle.std.specs.Prelude.{IsUtf8}
 use Rattle.std.proofs.lemmas.List.{append-nil}
 use Rattle.std.proofs.lemmas.Bool.{cases_lt}
+use Rattle.e57_base.specs.Fault.{fault}
 use Rattle.e57_base.specs.declared.fault.Fault.{Fault}
 use Rattle.e57_base.specs.declared.kind.Kind.TheVariants as kind
 use Rattle.e57_pieces.specs.declared.piece.Piece.{Piece}
@@ -14,11 +15,11 @@ use Rattle.e57_elements.specs.Tree.{Element, preorder}
 use Rattle.e57_elements.specs.Nested.{Nested, Alive}
 use Rattle.e57_elements.specs.Lawful.{IsLawful}
 use Rattle.e57_elements.specs.Spells.{Spells}
-use Rattle.e57_elements.specs.Fault.{fault_at, AreSound, IsPieceFault, IsStopFault, IsBodyFault, IsFirstFault}
+use Rattle.e57_elements.specs.Fault.{AreSound, IsPieceFault, IsStopFault, IsBodyFault, IsFirstFault}
 use Rattle.e57_elements.specs.Machine.{reading, done, run}
 use Rattle.e57_elements.proofs.Runs.{nested_runs}
 use Rattle.e57_elements.proofs.Counts.{Fits, fits_passes}
-use Rattle.e57_elements.proofs.Reached.{few_from}
+use Rattle.e57_elements.proofs.Led.{few_from}
 
 -- ---- trees
 
@@ -86,7 +87,7 @@ one_piece_fault before piece byte f g (inr (alive, b, passed, is_f)) (inl (dead,
 one_piece_fault before piece byte f g (inr (alive, b, passed, is_f)) (inr (alive_too, c, passed_too, is_g)) =
     let e : Some b ≡ Some c = sym passed ∙ passed_too in
     let same : b ≡ c = cc in
-    is_f ∙ ap (λ n. fault_at kind.TreeLimit byte n) same ∙ sym is_g
+    is_f ∙ ap (λ n. fault kind.TreeLimit byte n) same ∙ sym is_g
 
 one_stop_fault : (before : List Piece) (here : List ℕ) (byte : ℕ) (f g : Fault) → IsStopFault before here byte f → IsStopFault before here byte g → f ≡ g
 one_stop_fault before [] byte f g a b = a.1 ∙ sym b.1

@@ -1,5 +1,6 @@
 -- What the builder of a tree keeps of the machine's state.
-use Rattle.std.specs.Prelude.{◌≡◌, ℕ, ◌+◌, ◌^◌, ◌≤◌, nat_lt, ◌&&◌, Bool, true, false, List, [], ◌∷◌, ◌++◌, length, Some, None, Result, Ok, Err, if◌then◌else◌}
+use Rattle.std.specs.Prelude.{◌≡◌, ℕ, ◌+◌, ◌≤◌, nat_lt, ◌&&◌, Bool, true, false, List, [], ◌∷◌, ◌++◌, length, Some, None, Result, Ok, Err, if◌then◌else◌}
+use Rattle.e57_base.specs.Fault.{fault}
 use Rattle.e57_base.specs.declared.fault.TextFault.{TextFault}
 use Rattle.e57_base.specs.declared.fault.TextFault.TheVariants as failure
 use Rattle.e57_base.specs.declared.kind.Kind.TheVariants as kind
@@ -8,12 +9,13 @@ use Rattle.e57_pieces.specs.Cut.{IsCut}
 use Rattle.e57_elements.specs.declared.tree.RawNode.{RawNode}
 use Rattle.e57_elements.specs.declared.builder.Mark.{Mark}
 use Rattle.e57_elements.specs.declared.builder.Builder.{Builder}
-use Rattle.e57_elements.specs.declared.builder.Stop.{Stop}
-use Rattle.e57_elements.specs.declared.builder.Stop.TheVariants.{Nest, Limit, Memory}
+use Rattle.e57_elements.specs.declared.builder.TakeFault.{TakeFault}
+use Rattle.e57_elements.specs.declared.builder.TakeFault.TheVariants.{Nest, Limit, Memory}
+use Rattle.e57_elements.specs.Limits.{max_elements}
 use Rattle.e57_elements.specs.Tree.{Element, preorder}
 use Rattle.e57_elements.specs.Nested.{only_space, Nested}
 use Rattle.e57_elements.specs.Lawful.{IsLawful}
-use Rattle.e57_elements.specs.Fault.{limit, fault_at, IsBodyFault}
+use Rattle.e57_elements.specs.Fault.{limit, IsBodyFault}
 use Rattle.e57_elements.specs.Machine.{Open, State, reading, done, nodes_of, state_nodes, step, passes_in}
 
 -- where an open element's node stands, and the text so far
@@ -37,7 +39,7 @@ pub record Keeps (builder : Builder) (state : State) : Type 0 where
   pub nodes : builder.nodes.items ≡ state_nodes state
   pub marks : builder.marks.items ≡ state_marks state
   pub done : builder.done ≡ is_done state
-  pub few : length (state_nodes state) ≤ 2 ^ 20
+  pub few : length (state_nodes state) ≤ max_elements
 
 -- it is in some state
 pub record IsBuilder (builder : Builder) : Type 0 where
@@ -51,14 +53,14 @@ pub record IsFinished (builder : Builder) : Type 0 where
   pub is_lawful : (tree : Element) → state ≡ done tree → IsLawful tree
 
 -- What a builder that was in the state did with a piece.
-abbrev pub Takes : {T : Type 0} → State → Piece → Result T Stop → Builder → Type 0
+abbrev pub Takes : {T : Type 0} → State → Piece → Result T TakeFault → Builder → Type 0
 Takes before piece (Ok x) new = (after : State) × (step before piece ≡ Some after) × (passes_in before piece ≡ None) × Keeps new after
 Takes before piece (Err Nest) new = step before piece ≡ None
 Takes before piece (Err (Limit b)) new = (after : State) × (step before piece ≡ Some after) × (passes_in before piece ≡ Some b)
 Takes before piece (Err Memory) new = Unit {0}
 
 -- Whether an element with so many attributes may begin in the state.
-abbrev pub Admits : {T : Type 0} → State → ℕ → Result T Stop → Type 0
+abbrev pub Admits : {T : Type 0} → State → ℕ → Result T TakeFault → Type 0
 Admits (reading opens) attrs (Ok x) = limit attrs (length opens + 1) (length (nodes_of opens) + 1) ≡ None
 Admits (reading opens) attrs (Err Nest) = ⊥
 Admits (reading opens) attrs (Err (Limit b)) = limit attrs (length opens + 1) (length (nodes_of opens) + 1) ≡ Some b
@@ -73,11 +75,11 @@ ended_node node below text = record { name = node.name; attrs = node.attrs; text
 
 -- ---- what comes of it
 
--- the fault of a piece at this byte that isn't taken
-abbrev pub stop_fault : Stop → ℕ → TextFault
-stop_fault Nest byte = failure.Refused (fault_at kind.Nest byte 0)
-stop_fault (Limit b) byte = failure.Refused (fault_at kind.TreeLimit byte b)
-stop_fault Memory byte = failure.Memory
+-- the fault of a piece at this byte that wasn't taken
+abbrev pub take_fault : TakeFault → ℕ → TextFault
+take_fault Nest byte = failure.Refused (fault kind.Nest byte 0)
+take_fault (Limit b) byte = failure.Refused (fault kind.TreeLimit byte b)
+take_fault Memory byte = failure.Memory
 
 -- The nodes are those of a lawful tree to which the pieces of the body nest.
 pub record ReadsBody (body : List ℕ) (nodes : List RawNode) : Type 0 where
@@ -90,11 +92,11 @@ pub record ReadsBody (body : List ℕ) (nodes : List RawNode) : Type 0 where
 
 -- how the reading of a body fails in a text of this length
 abbrev pub IsBodyFailure : ℕ → List ℕ → TextFault → Type 0
-IsBodyFailure len body (failure.Refused fault) = IsBodyFault len body fault
+IsBodyFailure len body (failure.Refused found) = IsBodyFault len body found
 IsBodyFailure len body failure.Memory = Unit {0}
 
 -- What comes of a builder where no piece is spelled at this byte, with or without text left.
 abbrev pub Ends : State → Bool → ℕ → Result (List RawNode) TextFault → Type 0
-Ends state false byte result = result ≡ Err (failure.Refused (fault_at kind.Piece byte 0))
-Ends (reading opens) true byte result = result ≡ Err (failure.Refused (fault_at kind.Nest byte 0))
+Ends state false byte result = result ≡ Err (failure.Refused (fault kind.Piece byte 0))
+Ends (reading opens) true byte result = result ≡ Err (failure.Refused (fault kind.Nest byte 0))
 Ends (done e) true byte result = result ≡ Ok (preorder e)

@@ -1,11 +1,12 @@
 -- Which trees are lawful.
-use Rattle.std.specs.Prelude.{◌≡◌, ◌^◌, ◌<◌, ◌≤◌, true, List, [], length}
+use Rattle.std.specs.Prelude.{◌≡◌, ◌<◌, ◌≤◌, true, List, [], length}
 use Rattle.std.specs.List.{AllByRecursion}
 use Rattle.e57_pieces.specs.declared.piece.Attr.{Attr}
 use Rattle.e57_pieces.specs.Characters.{AreCharacters}
 use Rattle.e57_pieces.specs.Words.{IsName}
 use Rattle.e57_pieces.specs.Grammar.{differ}
 use Rattle.e57_elements.specs.declared.tree.RawNode.{RawNode}
+use Rattle.e57_elements.specs.Limits.{max_attrs, max_depth, max_elements}
 use Rattle.e57_elements.specs.Tree.{Element, preorder, depth}
 use Rattle.e57_elements.specs.Nested.{only_space}
 
@@ -20,7 +21,7 @@ pub record IsLawfulNode (node : RawNode) : Type 0 where
   pub name : AreCharacters node.name
   pub each : AllByRecursion IsLawfulAttr node.attrs
   pub names_differ : differ node.attrs ≡ true
-  pub few_attrs : length node.attrs ≤ 64
+  pub few_attrs : length node.attrs ≤ max_attrs
   pub text : AreCharacters node.text
   -- beside children there is no text of white space alone
   pub no_space : 1 < node.size → only_space node.text ≡ true → node.text ≡ []
@@ -28,8 +29,8 @@ pub record IsLawfulNode (node : RawNode) : Type 0 where
 -- Each node is lawful, and the tree is neither too deep nor too large.
 pub record IsLawful (tree : Element) : Type 0 where
   pub each : AllByRecursion IsLawfulNode (preorder tree)
-  pub not_deep : depth tree ≤ 64
-  pub not_large : length (preorder tree) ≤ 2 ^ 20
+  pub not_deep : depth tree ≤ max_depth
+  pub not_large : length (preorder tree) ≤ max_elements
 
 -- The nodes of a lawful tree in preorder.
 pub record AreNodes (nodes : List RawNode) : Type 0 where

@@ -1,10 +1,11 @@
 -- A tree that is made by calls, one node after another in preorder.
-use Rattle.std.specs.Prelude.{◌≡◌, ℕ, ◌+◌, ◌^◌, ◌<◌, ◌≤◌, true, ◌⊎◌, List, [], ◌∷◌, ◌++◌, length}
+use Rattle.std.specs.Prelude.{◌≡◌, ℕ, ◌+◌, ◌<◌, ◌≤◌, true, ◌⊎◌, List, [], ◌∷◌, ◌++◌, length}
 use Rattle.std.specs.List.{AllByRecursion}
 use Rattle.e57_pieces.specs.Characters.{AreCharacters}
 use Rattle.e57_pieces.specs.Words.{IsName}
 use Rattle.e57_pieces.specs.Grammar.{differ}
 use Rattle.e57_elements.specs.declared.tree.RawNode.{RawNode}
+use Rattle.e57_elements.specs.Limits.{max_attrs, max_depth, max_elements}
 use Rattle.e57_elements.specs.Tree.{Element, element, preorder, preorder_all, depth, depth_all}
 use Rattle.e57_elements.specs.Nested.{only_space}
 use Rattle.e57_elements.specs.Lawful.{IsLawfulNode}
@@ -56,18 +57,18 @@ pub record MayStart (tree : TreeSoFar) (name : List ℕ) : Type 0 where
   pub is_name : IsName name
   pub characters : AreCharacters name
   pub place : (tree.nodes ≡ []) ⊎ ((node : RawNode) × (below : List RawNode) × IsInnermost tree node below × (only_space node.text ≡ true → node.text ≡ []))
-  pub few_begun : length tree.begun < 64
-  pub few_nodes : length tree.nodes < 2 ^ 20
+  pub few_begun : length tree.begun < max_depth
+  pub few_nodes : length tree.nodes < max_elements
 
--- The innermost begun node has no child yet, and this attribute may be added to it: with it there are at most 64, whose
--- names differ.
+-- The innermost begun node has no child yet, and this attribute may be added to it: with it there are not too many, and
+-- their names differ.
 pub record MayAttr (tree : TreeSoFar) (name value : List ℕ) : Type 0 where
   pub node : RawNode
   pub is_innermost : IsInnermost tree node []
   pub is_name : IsName name
   pub characters : AreCharacters name
   pub value_characters : AreCharacters value
-  pub few : length node.attrs < 64
+  pub few : length node.attrs < max_attrs
   pub names_differ : differ (add_attr name value node).attrs ≡ true
 
 -- The innermost begun node has no child yet, and the text is characters.
@@ -99,14 +100,14 @@ MayHaveChild (top ∷ outer) = only_space top.text ≡ true → top.text ≡ []
 -- Each begun element is lawful so far.
 abbrev pub AreBegun : List Open → Type 0
 AreBegun [] = Unit {0}
-AreBegun (top ∷ outer) = AllByRecursion IsLawfulNode (preorder (made top)) × (length outer + 1 + depth_all top.children ≤ 64) × MayHaveChild outer × AreBegun outer
+AreBegun (top ∷ outer) = AllByRecursion IsLawfulNode (preorder (made top)) × (length outer + 1 + depth_all top.children ≤ max_depth) × MayHaveChild outer × AreBegun outer
 
 abbrev pub IsMade : State → TreeSoFar → Type 0
 IsMade (reading opens) tree = (tree.nodes ≡ begun_nodes opens) × (tree.begun ≡ begun_places opens) × AreBegun opens
-IsMade (done e) tree = (tree.nodes ≡ preorder e) × (tree.begun ≡ []) × AllByRecursion IsLawfulNode (preorder e) × (depth e ≤ 64)
+IsMade (done e) tree = (tree.nodes ≡ preorder e) × (tree.begun ≡ []) × AllByRecursion IsLawfulNode (preorder e) × (depth e ≤ max_depth)
 
 -- The nodes are those of begun elements, or of one that has ended; all are lawful so far.
 pub record IsLawfulSoFar (tree : TreeSoFar) : Type 0 where
   pub state : State
   pub is_made : IsMade state tree
-  pub not_large : length tree.nodes ≤ 2 ^ 20
+  pub not_large : length tree.nodes ≤ max_elements

@@ -8,7 +8,8 @@ use Rattle.e57_elements.specs.Tree.{Element, preorder}
 use Rattle.e57_elements.specs.Nested.{Nested}
 use Rattle.e57_elements.specs.Lawful.{IsLawful}
 
--- The text is UTF-8. It has a declaration where one has to stand, the cut of what follows has no rest, and its pieces nest to the tree.
+-- The text is UTF-8. It has a declaration where one has to stand, the cut of what follows has no rest, and its pieces nest
+-- to the tree.
 pub record Spells (text : List ℕ) (tree : Element) : Type 0 where
   pub utf8 : IsUtf8 text
   pub body : List ℕ

@@ -1,23 +1,13 @@
 //! The tree of the pieces that are read so far.
 
-ghost use Rattle.std.specs.Prelude.{◌≡◌, ◌^◌, ◌<◌, ◌≤◌, ◌∷◌, ◌++◌, List, length};
-ghost use Rattle.e57_base.specs.declared.fault.TextFault.TheVariants.{Refused};
-ghost use Rattle.e57_elements.specs.Fault.{fault_at};
+ghost use Rattle.std.specs.Prelude.{◌≡◌, ◌<◌, ◌≤◌, ◌∷◌, ◌++◌, List, length};
 
+use crate::limits::{MAX_ATTRS, MAX_DEPTH, MAX_ELEMENTS};
 use crate::text::{TextOut, is_only_space};
 use crate::tree::{RawNode, RawTree};
 use e57_base::{Fault, Kind, Octets, TextFault};
 use e57_pieces::{Attrs, Piece};
 use std::alloc::{AllocError, AllocFailed, Global};
-
-/// The most attributes that a tag may have.
-const MAX_ATTRS: usize = 64;
-
-/// The most elements that may be open within one another; the root has depth 1.
-const MAX_DEPTH: usize = 64;
-
-/// The most elements of a tree.
-const MAX_NODES: usize = 1 << 20;
 
 /// An open element: where its node stands, and its text so far.
 #[derive(Drop)]
@@ -28,12 +18,13 @@ pub struct Mark {
 
 impl Mark {
     ghost use Rattle.e57_elements.specs.declared.tree.RawNode.{RawNode};
+    ghost use Rattle.e57_elements.specs.Limits.{max_elements};
     ghost use Rattle.e57_elements.specs.Builder.{ended_node};
 
     /// Ends the element: its node gets its text and its size.
     fn end(self, nodes: &mut Vec<RawNode>)
         requires within { self.place < length nodes.old.items }
-        requires few { length nodes.old.items ≤ 2 ^ 20 }
+        requires few { length nodes.old.items ≤ max_elements }
         ensures { (before : List RawNode) (node : RawNode) (below : List RawNode)
             → nodes.old.items ≡ before ++ node ∷ below → length before ≡ self.place
             → nodes.new.items ≡ before ++ ended_node node below self.text ∷ below }
@@ -48,7 +39,7 @@ impl Mark {
 
 /// Why a piece isn't taken.
 #[derive(Clone, Copy, Debug, PartialEq, Eq)]
-pub enum Stop {
+pub enum TakeFault {
     /// With it the pieces begin no nested list.
     Nest,
     /// It passes a limit: 1 attributes, 2 depth, 3 elements.
@@ -57,45 +48,38 @@ pub enum Stop {
     Memory,
 }
 
-impl Stop {
-    ghost use Rattle.e57_elements.specs.Builder.{stop_fault};
+impl TakeFault {
+    ghost use Rattle.e57_elements.specs.Builder.{take_fault};
 
     /// The fault of a piece at this byte.
-    pub fn fault_at(self, byte: u64) -> TextFault
-        ensures { result ≡ stop_fault self byte }
+    pub fn at(self, byte: u64) -> TextFault
+        ensures { result ≡ take_fault self byte }
     {
         match self {
-            Stop::Nest => refused(Kind::Nest, byte, 0),
-            Stop::Limit(which) => refused(Kind::TreeLimit, byte, which),
-            Stop::Memory => TextFault::Memory,
+            TakeFault::Nest => TextFault::Refused(Fault::new(Kind::Nest, byte, 0)),
+            TakeFault::Limit(which) => TextFault::Refused(Fault::new(Kind::TreeLimit, byte, which)),
+            TakeFault::Memory => TextFault::Memory,
         }
     }
 }
 
-/// A text that is refused with this fault.
-pub fn refused(kind: Kind, a: u64, b: u64) -> TextFault
-    ensures { result ≡ Refused (fault_at kind a b) }
-{
-    TextFault::Refused(Fault { kind, a, b })
-}
+impl From<AllocError> for TakeFault {
+    ghost use Rattle.e57_elements.specs.declared.builder.TakeFault.TheVariants.{Memory};
 
-impl From<AllocError> for Stop {
-    ghost use Rattle.e57_elements.specs.declared.builder.Stop.TheVariants.{Memory};
+    ghost from_gives = { λ _ fault. fault ≡ Memory };
 
-    ghost from_gives = { λ _ stop. stop ≡ Memory };
-
-    fn from(_error: AllocError) -> Stop {
-        Stop::Memory
+    fn from(_error: AllocError) -> TakeFault {
+        TakeFault::Memory
     }
 }
 
-impl<T: Drop> From<AllocFailed<T>> for Stop {
-    ghost use Rattle.e57_elements.specs.declared.builder.Stop.TheVariants.{Memory};
+impl<T: Drop> From<AllocFailed<T>> for TakeFault {
+    ghost use Rattle.e57_elements.specs.declared.builder.TakeFault.TheVariants.{Memory};
 
-    ghost from_gives = { λ _ stop. stop ≡ Memory };
+    ghost from_gives = { λ _ fault. fault ≡ Memory };
 
-    fn from(_error: AllocFailed<T>) -> Stop {
-        Stop::Memory
+    fn from(_error: AllocFailed<T>) -> TakeFault {
+        TakeFault::Memory
     }
 }
 
@@ -126,7 +110,7 @@ impl Builder {
     }
 
     /// Takes the next piece.
-    pub fn take(&mut self, alloc: Global, piece: Piece) -> Result<(), Stop>
+    pub fn take(&mut self, alloc: Global, piece: Piece) -> Result<(), TakeFault>
         requires { IsBuilder self.old }
         ensures { (state : State) → Keeps self.old state → Takes state piece result self.new }
     {
@@ -135,32 +119,32 @@ impl Builder {
             Piece::Empty { name, attrs } => self.empty(alloc, name, attrs),
             Piece::End { name } => self.end(&name),
             Piece::Comment => Ok(()),
-            Piece::CData { text } => self.text(&text),
-            Piece::Text { text } => self.run(&text),
+            Piece::CData { text } => self.text(text),
+            Piece::Text { text } => self.run(text),
         }
     }
 
     /// Whether an element with so many attributes may begin.
-    fn admit(&self, attrs: usize) -> Result<(), Stop>
+    fn admit(&self, attrs: usize) -> Result<(), TakeFault>
         ensures { (state : State) → Keeps self.now state → Admits state attrs result }
     {
         if self.done {
-            return Err(Stop::Nest);
+            return Err(TakeFault::Nest);
         }
         if attrs > MAX_ATTRS {
-            return Err(Stop::Limit(1));
+            return Err(TakeFault::Limit(1));
         }
         if self.marks.len() >= MAX_DEPTH {
-            return Err(Stop::Limit(2));
+            return Err(TakeFault::Limit(2));
         }
-        if self.nodes.len() >= MAX_NODES {
-            return Err(Stop::Limit(3));
+        if self.nodes.len() >= MAX_ELEMENTS {
+            return Err(TakeFault::Limit(3));
         }
         Ok(())
     }
 
     /// Takes a start tag.
-    fn start(&mut self, alloc: Global, name: Octets, attrs: Attrs) -> Result<(), Stop>
+    fn start(&mut self, alloc: Global, name: Octets, attrs: Attrs) -> Result<(), TakeFault>
         ensures { (state : State) → Keeps self.old state → Takes state (Start name attrs) result self.new }
     {
         self.admit(attrs.len())?;
@@ -179,7 +163,7 @@ impl Builder {
     }
 
     /// Takes an empty tag.
-    fn empty(&mut self, alloc: Global, name: Octets, attrs: Attrs) -> Result<(), Stop>
+    fn empty(&mut self, alloc: Global, name: Octets, attrs: Attrs) -> Result<(), TakeFault>
         ensures { (state : State) → Keeps self.old state → Takes state (Empty name attrs) result self.new }
     {
         self.admit(attrs.len())?;
@@ -194,15 +178,15 @@ impl Builder {
     }
 
     /// Takes an end tag.
-    fn end(&mut self, name: &Octets) -> Result<(), Stop>
+    fn end(&mut self, name: &Octets) -> Result<(), TakeFault>
         requires { IsBuilder self.old }
         ensures { (state : State) → Keeps self.old state → Takes state (End name.now) result self.new }
     {
         let Some(mark) = self.marks.pop() else {
-            return Err(Stop::Nest);
+            return Err(TakeFault::Nest);
         };
         if self.nodes[mark.place].name.as_slice() != name.as_slice() {
-            return Err(Stop::Nest);
+            return Err(TakeFault::Nest);
         }
         mark.end(&mut self.nodes);
         self.done = self.marks.is_empty();
@@ -210,25 +194,25 @@ impl Builder {
     }
 
     /// Takes CDATA, or a text run in an element.
-    fn text(&mut self, text: &Octets) -> Result<(), Stop>
-        ensures { (state : State) → Keeps self.old state → Takes state (CData text.now) result self.new }
+    fn text(&mut self, text: Octets) -> Result<(), TakeFault>
+        ensures { (state : State) → Keeps self.old state → Takes state (CData text) result self.new }
     {
         let Some(mark) = self.marks.last_mut() else {
-            return Err(Stop::Nest);
+            return Err(TakeFault::Nest);
         };
-        mark.text.push(text.as_slice())?;
+        mark.text.push(text)?;
         Ok(())
     }
 
     /// Takes a text run.
-    fn run(&mut self, text: &Octets) -> Result<(), Stop>
-        ensures { (state : State) → Keeps self.old state → Takes state (Text text.now) result self.new }
+    fn run(&mut self, text: Octets) -> Result<(), TakeFault>
+        ensures { (state : State) → Keeps self.old state → Takes state (Text text) result self.new }
     {
         if !self.marks.is_empty() {
             return self.text(text);
         }
         if !is_only_space(text.as_slice()) {
-            return Err(Stop::Nest);
+            return Err(TakeFault::Nest);
         }
         Ok(())
     }
@@ -240,10 +224,10 @@ impl Builder {
     {
         let Builder { nodes, done, .. } = self;
         if !at_end {
-            return Err(refused(Kind::Piece, byte, 0));
+            return Err(TextFault::Refused(Fault::new(Kind::Piece, byte, 0)));
         }
         if !done {
-            return Err(refused(Kind::Nest, byte, 0));
+            return Err(TextFault::Refused(Fault::new(Kind::Nest, byte, 0)));
         }
         Ok(RawTree::new(nodes))
     }

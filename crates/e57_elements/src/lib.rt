@@ -2,6 +2,9 @@
 #![tactic(auto)]
 
 mod builder;
+#[cfg(test)]
+mod large_tests;
+mod limits;
 mod read;
 #[cfg(test)]
 mod tests;
@@ -13,6 +16,7 @@ mod write;
 mod write_tests;
 
 pub use e57_pieces::{Attr, Attrs};
+pub use limits::{MAX_ATTRS, MAX_DEPTH, MAX_ELEMENTS, MAX_TEXT};
 pub use read::{one_answer, read_elements};
 pub use tree::{RawNode, RawTree};
 pub use tree_out::TreeOut;

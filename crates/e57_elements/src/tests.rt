@@ -1,6 +1,6 @@
 //! Short texts with their trees, each fault with its numbers, and the limits.
 
-use crate::{RawTree, read_elements};
+use crate::{MAX_TEXT, RawTree, read_elements};
 use e57_base::TextFault;
 use std::alloc::{AllocError, Global};
 use std::process::Abort;
@@ -29,7 +29,7 @@ fn show_tree(alloc: Global, tree: &RawTree) -> Result<Vec<u8>, AllocError> {
 
 /// The tree of a text, or its fault.
 fn shown(alloc: Global, text: &[u8]) -> Result<Vec<u8>, Fail> {
-    if text.len() > 1 << 26 {
+    if text.len() > MAX_TEXT {
         return Err(AllocError.into());
     }
     match read_elements(alloc, text) {

@@ -30,10 +30,14 @@ impl TextOut {
     }
 
     /// Adds bytes at the end.
-    pub fn push(&mut self, more: &[u8]) -> Result<(), AllocError>
-        ensures { OnOk result (self.new ≡ self.old ++ more.now) }
+    pub fn push(&mut self, more: Octets) -> Result<(), AllocError>
+        ensures { OnOk result (self.new ≡ self.old ++ more) }
     {
-        self.bytes.extend_from_slice(more)?;
+        if self.bytes.is_empty() {
+            self.bytes = more.into_bytes();
+            return Ok(());
+        }
+        self.bytes.extend_from_slice(more.as_slice())?;
         Ok(())
     }
 
@@ -44,10 +48,18 @@ impl TextOut {
         let TextOut { mut bytes } = self;
         if children && is_only_space(&bytes) {
             bytes.clear();
-            return Octets::new(bytes);
+            return shrunk(bytes);
         }
-        Octets::new(bytes)
+        shrunk(bytes)
     }
+}
+
+/// These bytes, without the memory that is kept for further ones.
+fn shrunk(mut bytes: Vec<u8>) -> Octets
+    ensures { result ≡ bytes.items }
+{
+    bytes.shrink_to_fit();
+    Octets::new(bytes)
 }
 
 /// Whether each byte is white space.

@@ -2,6 +2,7 @@
 
 ghost use Rattle.std.specs.Prelude.{◌≡◌, ◌<◌, [], length, IfOk, OnOk, OnErr};
 
+use crate::limits::MAX_DEPTH;
 use crate::tree::{RawNode, RawTree};
 use e57_base::Octets;
 use e57_pieces::{Attr, Attrs};
@@ -37,7 +38,7 @@ impl TreeOut {
     {
         Ok(TreeOut {
             nodes: Vec::new(alloc),
-            begun: Vec::with_capacity(alloc, 64)?,
+            begun: Vec::with_capacity(alloc, MAX_DEPTH)?,
             alloc,
         })
     }

@@ -1,12 +1,13 @@
 //! The written spelling of a tree.
 
-ghost use Rattle.std.specs.Prelude.{◌≡◌, ◌^◌, ◌≤◌, ◌∷◌, ◌++◌, [], List, codes, drop, length, IfOk, OnOk};
+ghost use Rattle.std.specs.Prelude.{◌≡◌, ◌≤◌, ◌∷◌, ◌++◌, [], List, codes, drop, length, IfOk, OnOk};
 ghost use Rattle.e57_elements.specs.declared.tree.RawNode.{RawNode};
+ghost use Rattle.e57_elements.specs.Limits.{max_elements};
 ghost use Rattle.e57_elements.specs.Tree.{Element, preorder};
 ghost use Rattle.e57_elements.specs.Lawful.{IsLawful};
 ghost use Rattle.e57_elements.specs.Spells.{Spells};
 ghost use Rattle.e57_elements.specs.Spelling.{text_byte, value_byte, written, attrs_spelling, element_spelling, spelling};
-ghost use Rattle.e57_elements.specs.Places.{StandsAt};
+ghost use Rattle.e57_elements.specs.Places.{StandsAt, WritesElement};
 
 use crate::tree::{RawNode, RawTree};
 use e57_pieces::{Attr, Attrs};
@@ -35,11 +36,11 @@ pub fn spelling_spells()
     ensures { (e : Element) → IsLawful e → Spells (spelling e) e }
 {}
 
-/// Writes the element at a place. It calls itself for the children, so at most to the depth of the tree, which is 64.
+/// Writes the element at a place. It calls itself for the children, so at most to the depth of the tree.
 fn write_element(out: &mut Vec<u8>, tree: &RawTree, place: usize) -> Result<(), AllocError>
     requires stands { StandsAt tree.now place }
-    requires few { length tree.now ≤ 2 ^ 20 }
-    ensures { (e : Element) (rest : List RawNode) → drop place tree.now ≡ preorder e ++ rest → OnOk result (out.new.items ≡ out.old.items ++ element_spelling e) }
+    requires few { length tree.now ≤ max_elements }
+    ensures { WritesElement tree.now place result out.old.items out.new.items }
 {
     let node = tree.node(place);
     write_tag(out, node)?;

@@ -1,12 +1,12 @@
 //! Written spellings of trees that are read and of one that is made.
 
-use crate::{TreeOut, read_elements, write_elements};
+use crate::{MAX_TEXT, TreeOut, read_elements, write_elements};
 use std::alloc::{AllocError, Global};
 use std::test::Fail;
 
 /// The written spelling of the tree of a text.
 fn written(alloc: Global, text: &[u8]) -> Result<Vec<u8>, Fail> {
-    if text.len() > 1 << 26 {
+    if text.len() > MAX_TEXT {
         return Err(AllocError.into());
     }
     match read_elements(alloc, text) {

@@ -13,7 +13,7 @@ use Rattle.e57_base.specs.declared.fault.TextFault.TheVariants as text
 use Rattle.e57_base.specs.declared.kind.Kind.TheVariants.{XmlPlace, XmlLimit}
 use Rattle.e57_page.specs.declared.header.Header.{Header}
 use Rattle.e57_page.specs.declared.pages.Cut.{Cut}
-use Rattle.e57_page.specs.Header.{fault}
+use Rattle.e57_base.specs.Fault.{fault}
 use Rattle.e57_page.specs.Place.{place, span_end, RisesWithin, unless_kept}
 use Rattle.e57_page.specs.PlaceLaws.{rises_to_higher}
 use Rattle.e57_page.specs.File.{logical, page_fault, pages_fault}
@@ -25,7 +25,7 @@ use Rattle.e57_pieces.specs.Cut.{IsNext, NoPiece}
 use Rattle.e57_elements.specs.declared.tree.RawNode.{RawNode}
 use Rattle.e57_elements.specs.Spells.{Reads}
 use Rattle.e57_elements.specs.Fault.{IsFirstFault, IsReadFault, IsPieceFault, IsStopFault}
-use Rattle.e57_file.specs.Told.{told_map, told_both, length_told}
+use Rattle.e57_base.specs.Told.{told_map, told_both, length_told}
 use Rattle.e57_file.specs.Section.{place_fault, limit_fault, start_of, section_pages_fault, section_fault, section_text, IsTextFault, IsSectionPlace}
 use Rattle.e57_file.specs.Text.{AsksForSection, is_text_kind, IsTextCause, IsTextRead, IsTextNotRead, open_fault, open_text_fault}
 

@@ -10,7 +10,8 @@ use Rattle.e57_base.specs.declared.fault.ReadFault.{ReadFault}
 use Rattle.e57_base.specs.declared.kind.Kind.TheVariants.{Signature, Version, FileLength, PageSize, Page}
 use Rattle.e57_crc.specs.Crc.{is_right}
 use Rattle.e57_page.specs.declared.header.Header.{Header}
-use Rattle.e57_page.specs.Header.{fault, signature, major_version, minor_version, physical_length, page_size, header_fault, header_of}
+use Rattle.e57_base.specs.Fault.{fault}
+use Rattle.e57_page.specs.Header.{signature, major_version, minor_version, physical_length, page_size, header_fault, header_of}
 use Rattle.e57_page.specs.File.{length_fault, page_fault, pages_fault, opening_fault}
 use Rattle.e57_page.specs.FileLaws.{whole_length, page_fault-right, page_fault-wrong, header_fault-page, header_of-page, pages_fault-zero, pages_fault-more}
 use Rattle.e57_page.specs.Pages.{AsksFor, IsScanned, IsScannedTo, is_opening_kind}

@@ -1,13 +1,15 @@
 -- A file as a row of pages of 1024 bytes (ASTM E2807, physical layout), its logical bytes, and the faults of its
 -- length and pages.
-use Rattle.std.specs.Prelude.{ℕ, zero, suc, ◌+◌, ◌/◌, ◌%◌, ◌^◌, ◌==◌, ◌||◌, not, nat_lt, if◌then◌else◌, List, length, take, Option, Some, None}
+use Rattle.std.specs.Prelude.{ℕ, zero, suc, ◌+◌, ◌-◌, ◌*◌, ◌/◌, ◌%◌, ◌^◌, ◌==◌, ◌||◌, not, nat_lt, if◌then◌else◌, List, length, take, Option, Some, None}
 use Rattle.std.specs.List.{flat_map, range_with_len}
 use Rattle.std.specs.Option.{option_or}
 use Rattle.e57_base.specs.declared.fault.Fault.{Fault}
 use Rattle.e57_base.specs.declared.kind.Kind.TheVariants.{FileLength, Page}
 use Rattle.e57_base.specs.Source.{page_of}
 use Rattle.e57_crc.specs.Crc.{is_right}
-use Rattle.e57_page.specs.Header.{fault, header_fault}
+use Rattle.e57_base.specs.Fault.{fault}
+use Rattle.e57_page.specs.Header.{header_fault}
+use Rattle.e57_page.specs.Place.{span_end}
 
 -- the payload of page n: its first 1020 bytes
 abbrev pub payload : List ℕ → ℕ → List ℕ
@@ -29,6 +31,14 @@ page_fault file n = if is_right (page_of file n) then None else Some (fault Page
 unfoldable pub pages_fault : List ℕ → ℕ → ℕ → Option Fault
 pages_fault file n zero = None
 pages_fault file n (suc count) = option_or (page_fault file n) (pages_fault file (n + 1) count)
+
+-- the first fault of the pages that the n logical bytes from place q on lie in
+abbrev pub span_fault : List ℕ → ℕ → ℕ → Option Fault
+span_fault file q n = pages_fault file (q / 1020) (span_end q n - q / 1020)
+
+-- the number of the logical bytes
+abbrev pub logical_size : List ℕ → ℕ
+logical_size file = length file / 1024 * 1020
 
 -- the first fault that is met when a file is opened: of its length, its header and page 0
 abbrev pub opening_fault : List ℕ → Option Fault

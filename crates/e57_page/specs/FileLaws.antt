@@ -10,7 +10,8 @@ use Rattle.e57_base.specs.Source.{page_of}
 use Rattle.e57_base.specs.declared.kind.Kind.TheVariants.{FileLength, Page}
 use Rattle.e57_bits.specs.BitLaws.{number-take}
 use Rattle.e57_crc.specs.Crc.{is_right}
-use Rattle.e57_page.specs.Header.{fault, header_fault, header_of}
+use Rattle.e57_base.specs.Fault.{fault}
+use Rattle.e57_page.specs.Header.{header_fault, header_of}
 use Rattle.e57_page.specs.File.{length_fault, payload, logical, page_fault, pages_fault}
 
 -- no fault in two places: none in either

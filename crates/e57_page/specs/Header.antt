@@ -3,7 +3,7 @@ use Rattle.std.specs.Prelude.{ℕ, ◌*◌, ◌==◌, ◌&&◌, not, if◌then�
 use Rattle.std.specs.Str.{bytes_eq}
 use Rattle.e57_bits.specs.Bits.{number}
 use Rattle.e57_base.specs.declared.fault.Fault.{Fault}
-use Rattle.e57_base.specs.declared.kind.Kind.{Kind}
+use Rattle.e57_base.specs.Fault.{fault}
 use Rattle.e57_base.specs.declared.kind.Kind.TheVariants.{Signature, Version, FileLength, PageSize}
 use Rattle.e57_page.specs.declared.header.Header.{Header}
 
@@ -32,9 +32,6 @@ page_size file = number file (8 * 40) 64
 -- the numbers of the header that are used later
 abbrev pub header_of : List ℕ → Header
 header_of file = record { length = physical_length file; xml_place = xml_offset file; xml_length = xml_length file }
-
-abbrev pub fault : Kind → ℕ → ℕ → Fault
-fault kind a b = record { kind = kind; a = a; b = b }
 
 -- The first fault of the header of a file of this length in bytes, in the order signature, version, length, page size.
 unfoldable pub header_fault : List ℕ → ℕ → Option Fault

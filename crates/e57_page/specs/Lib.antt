@@ -3,6 +3,7 @@ pub mod PlaceLaws
 pub mod Header
 pub mod File
 pub mod FileLaws
+pub mod XmlSection
 pub mod Pages
 pub mod Fetch
 pub mod PagesLaws

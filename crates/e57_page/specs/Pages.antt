@@ -11,7 +11,8 @@ use Rattle.e57_base.specs.declared.kind.Kind.TheVariants.{FileLength, Signature,
 use Rattle.e57_page.specs.declared.header.Header.{Header}
 use Rattle.e57_page.specs.declared.pages.Cut.{Cut}
 use Rattle.e57_page.specs.Place.{RisesWithin, span_end, unless_kept}
-use Rattle.e57_page.specs.Header.{fault, header_of}
+use Rattle.e57_base.specs.Fault.{fault}
+use Rattle.e57_page.specs.Header.{header_of}
 use Rattle.e57_page.specs.File.{logical, length_fault, page_fault, pages_fault, opening_fault}
 
 -- the source, the file's length in bytes, and the numbers of its header

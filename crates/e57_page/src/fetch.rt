@@ -1,6 +1,7 @@
 //! Pages of a source: asked for, tested, kept.
 
 ghost use Rattle.std.specs.Prelude.{◌≡◌, ◌≢◌, ◌/◌, ℕ, Some, None, length, MatchResult};
+ghost use Rattle.e57_base.specs.Fault.{fault};
 ghost use Rattle.e57_base.specs.Source.{HasPage};
 ghost use Rattle.e57_page.specs.File.{length_fault};
 ghost use Rattle.e57_page.specs.Pages.{IsOpened, IsNotOpened, IsScanned, IsScannedTo};
@@ -28,13 +29,9 @@ pub fn fetch<S: Source>(source: &mut S, n: u64, page: &mut [u8; 1024]) -> Result
 
 /// The fault of page `n`.
 fn wrong_page(n: u64) -> ReadFault
-    ensures { result ≡ ReadFault.Refused (record { kind = Kind.Page; a = n; b = 0 }) }
+    ensures { result ≡ ReadFault.Refused (fault Kind.Page n 0) }
 {
-    ReadFault::Refused(Fault {
-        kind: Kind::Page,
-        a: n,
-        b: 0,
-    })
+    ReadFault::Refused(Fault::new(Kind::Page, n, 0))
 }
 
 /// Asks for page 0 of a file of `length` bytes, and judges its header and then its word. After a refusal `page` has

@@ -31,20 +31,20 @@ impl Header {
     {
         let bytes = page.as_slice();
         if &bytes[..8] != b"ASTM-E57".as_slice() {
-            return Err(fault(Kind::Signature, 0, 0));
+            return Err(Fault::new(Kind::Signature, 0, 0));
         }
         let major = u32_at(bytes, 8);
         let minor = u32_at(bytes, 12);
         if major != 1 || minor != 0 {
-            return Err(fault(Kind::Version, major as u64, minor as u64));
+            return Err(Fault::new(Kind::Version, major as u64, minor as u64));
         }
         let stated = u64_at(bytes, 16);
         if stated != length {
-            return Err(fault(Kind::FileLength, length, stated));
+            return Err(Fault::new(Kind::FileLength, length, stated));
         }
         let page_size = u64_at(bytes, 40);
         if page_size != 1024 {
-            return Err(fault(Kind::PageSize, page_size, 0));
+            return Err(Fault::new(Kind::PageSize, page_size, 0));
         }
         Ok(Header {
             length: stated,
@@ -52,11 +52,4 @@ impl Header {
             xml_length: u64_at(bytes, 32),
         })
     }
-}
-
-/// A fault and its two numbers.
-fn fault(kind: Kind, a: u64, b: u64) -> Fault
-    ensures { result ≡ record { kind = kind; a = a; b = b } }
-{
-    Fault { kind, a, b }
 }

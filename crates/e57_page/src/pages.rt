@@ -163,9 +163,5 @@ fn judge_length(length: u64) -> Option<Fault>
     ensures { result ≡ length_fault length }
 {
     let wrong = length == 0 || length % 1024 != 0 || length > 1 << 48;
-    wrong.then_some(Fault {
-        kind: Kind::FileLength,
-        a: length,
-        b: 0,
-    })
+    wrong.then_some(Fault::new(Kind::FileLength, length, 0))
 }

@@ -5,21 +5,21 @@ use Rattle.std.specs.Char.{digit_value}
 use Rattle.std.proofs.Math.Nat.{mul-le-mul_left, pow-le-pow_right}
 use Rattle.std.proofs.lemmas.List.{append-nil, drop_more, drop_all}
 use Rattle.e57_pieces.specs.declared.piece.Attr.{Attr}
-use Rattle.e57_pieces.specs.Words.{number_from}
+use Rattle.e57_pieces.specs.Words.{numeral_from}
 use Rattle.e57_pieces.specs.Reading.{run, after, reference_at, parts_at, attr_at, attrs_at}
 
 -- ---- numbers
 
-pub number_more : (base n : ℕ) (digits : List ℕ) (i b : ℕ) → i < length digits → b ≡ get_or digits i 0 → number_from base n (drop i digits) ≡ number_from base (n * base + digit_value b) (drop (i + 1) digits)
-unfolding number_from
-number_more base n digits i b lt e = rw (drop_more digits i 0 lt, ← e) refl
+pub numeral_more : (base n : ℕ) (digits : List ℕ) (i b : ℕ) → i < length digits → b ≡ get_or digits i 0 → numeral_from base n (drop i digits) ≡ numeral_from base (n * base + digit_value b) (drop (i + 1) digits)
+unfolding numeral_from
+numeral_more base n digits i b lt e = rw (drop_more digits i 0 lt, ← e) refl
 
-pub number_done : (base n : ℕ) (digits : List ℕ) (i : ℕ) → length digits ≤ i → number_from base n (drop i digits) ≡ n
-unfolding number_from
-number_done base n digits i le = rw (drop_all i digits le) refl
+pub numeral_done : (base n : ℕ) (digits : List ℕ) (i : ℕ) → length digits ≤ i → numeral_from base n (drop i digits) ≡ n
+unfolding numeral_from
+numeral_done base n digits i le = rw (drop_all i digits le) refl
 
-pub number_fits : (base n d i : ℕ) → base ≤ 16 → d ≤ 36 → i < 10 → n < 64 ^ i → (n * base + d < 64 ^ (i + 1)) × (n * base + d < 2 ^ 64)
-number_fits base n d i low small few below =
+pub numeral_fits : (base n d i : ℕ) → base ≤ 16 → d ≤ 36 → i < 10 → n < 64 ^ i → (n * base + d < 64 ^ (i + 1)) × (n * base + d < 2 ^ 64)
+numeral_fits base n d i low small few below =
     let product : n * base ≤ n * 16 = mul-le-mul_left n low in
     let next : 64 ^ (i + 1) ≡ 64 * 64 ^ i = rw (add-one, pow-suc) (mul_comm (64 ^ i) 64) in
     let within : i + 1 ≤ 10 = omega arith in

@@ -85,7 +85,7 @@ pub begins_declared : (text body : List ℕ) → declares (after_mark text) ≡ 
 begins_declared text body e is = inr (e, is.0, is.1, is.2)
 
 pub start_stops : (stop : Stop) (text : List ℕ) → declares (after_mark text) ≡ true → StopsDeclaration stop (after_mark text) → StopsStart stop text
-start_stops Memory text e is = tt
+start_stops Memory text e is = e
 start_stops Absent text e is = record { declared = e; no_declaration = is }
 
 pub body_from : (r : Result (Bor (List ℕ) × ℕ) Stop) (text : List ℕ) → declares (after_mark text) ≡ true

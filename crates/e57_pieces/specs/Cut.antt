@@ -37,3 +37,7 @@ IsFront text (piece ∷ pieces) rest = (after : List ℕ) × IsNext text piece a
 pub record IsCut (text : List ℕ) (pieces : List Piece) (rest : List ℕ) : Type 0 where
   pub is_front : IsFront text pieces rest
   pub is_longest : NoPiece rest
+
+-- The text has at most one cut.
+abbrev pub HasOneCut : List ℕ → Type 0
+HasOneCut text = (xs ys : List Piece) (r s : List ℕ) → IsCut text xs r → IsCut text ys s → (xs ≡ ys) × (r ≡ s)

@@ -1,7 +1,9 @@
 -- What a reader of the code gave, against a reading function.
-use Rattle.std.specs.Prelude.{◌≡◌, List, ℕ, ◌++◌, Option, Some, None, Result, Ok, Err}
-use Rattle.e57_pieces.specs.Cut.{NoPiece}
-use Rattle.e57_pieces.specs.Start.{IsDeclaration, BeginsNowhere}
+use Rattle.std.specs.Prelude.{◌≡◌, List, ℕ, true, ◌++◌, Option, Some, None, Result, Ok, Err, MatchOption}
+use Rattle.e57_pieces.specs.Cut.{NoPiece, IsNext}
+use Rattle.e57_pieces.specs.Start.{after_mark, declares, IsDeclaration, BeginsNowhere}
+use Rattle.e57_pieces.specs.Reading.{IsCleanAt, next_at}
+use Rattle.e57_pieces.specs.declared.piece.Piece.{Piece}
 use Rattle.e57_pieces.specs.declared.stop.Stop.{Stop}
 use Rattle.e57_pieces.specs.declared.stop.Stop.TheVariants.{Memory, Absent}
 
@@ -28,5 +30,17 @@ StopsDeclaration Memory text = Unit {0}
 StopsDeclaration Absent text = (spelling rest : List ℕ) → text ≡ spelling ++ rest → IsDeclaration spelling → ⊥
 
 abbrev pub StopsStart : Stop → List ℕ → Type 0
-StopsStart Memory text = Unit {0}
+StopsStart Memory text = declares (after_mark text) ≡ true
 StopsStart Absent text = BeginsNowhere text
+
+-- a declaration stands before the rest, whose first n bytes are characters
+abbrev pub DeclaredClean : List ℕ → List ℕ → ℕ → Type 0
+DeclaredClean text rest n = DeclaredBefore text rest × IsCleanAt rest n
+
+-- where a piece is next, it was found, and its rest is left
+abbrev pub IsFoundNext : List ℕ → Option Piece → List ℕ → Type 0
+IsFoundNext text found left = (piece : Piece) (rest : List ℕ) → IsNext text piece rest → (found ≡ Some piece) × (left ≡ rest)
+
+-- the reading function gives what was found, and what is left
+abbrev pub IsNextRead : List ℕ → Option Piece → List ℕ → Type 0
+IsNextRead text found left = MatchOption found (next_at text ≡ None) (λ piece. next_at text ≡ Some (piece, left))

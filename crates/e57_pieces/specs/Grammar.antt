@@ -6,7 +6,7 @@ use Rattle.e57_pieces.specs.declared.piece.Attr.{Attr}
 use Rattle.e57_pieces.specs.declared.piece.Piece.{Piece}
 use Rattle.e57_pieces.specs.declared.piece.Piece.TheVariants.{Start, Empty, End, Comment, CData, Text}
 use Rattle.e57_pieces.specs.Characters.{is_character, AreCharacters}
-use Rattle.e57_pieces.specs.Words.{is_space, is_decimal, is_hexadecimal, is_plain, Each, IsName, number, Absent}
+use Rattle.e57_pieces.specs.Words.{is_space, is_decimal, is_hexadecimal, is_plain, Each, IsName, numeral, max_digits, Absent}
 
 -- ---- references
 
@@ -21,8 +21,8 @@ pub record IsNumbered (mark : List ℕ) (is_digit : ℕ → Bool) (base : ℕ) (
   pub digits : List ℕ
   pub each : Each is_digit digits
   pub some : 0 < length digits
-  pub few : length digits ≤ 10
-  pub value : c ≡ number base digits
+  pub few : length digits ≤ max_digits
+  pub value : c ≡ numeral base digits
   pub character : is_character c ≡ true
   pub spelled : spelling ≡ mark ++ digits ++ codes ";"
 

@@ -6,7 +6,7 @@ use Rattle.e57_pieces.specs.declared.piece.Attr.{Attr}
 use Rattle.e57_pieces.specs.declared.piece.Piece.{Piece}
 use Rattle.e57_pieces.specs.declared.piece.Piece.TheVariants.{Start, Empty, End, Comment, CData, Text}
 use Rattle.e57_pieces.specs.Characters.{is_character, clean_len, IsClean}
-use Rattle.e57_pieces.specs.Words.{is_space, begins_name, goes_on_name, is_decimal, is_hexadecimal, is_plain, number}
+use Rattle.e57_pieces.specs.Words.{is_space, begins_name, goes_on_name, is_decimal, is_hexadecimal, is_plain, numeral, max_digits}
 use Rattle.e57_pieces.specs.Grammar.{differ}
 use Rattle.e57_pieces.specs.Start.{strip, declares, after_mark, encoding_fits}
 
@@ -47,11 +47,15 @@ space_at (b ∷ bs) = given (is_space b) (after is_space bs)
 abbrev pub named_at : List ℕ → ℕ → List ℕ → Option (ℕ × List ℕ)
 named_at word c bytes = option_map (λ rest. (c, rest)) (strip word bytes)
 
+-- at least one digit, and not too many
+abbrev pub are_few : List ℕ → Bool
+are_few digits = nat_le 1 (length digits) && nat_le (length digits) max_digits
+
 unfoldable pub numbered_at : List ℕ → (ℕ → Bool) → ℕ → List ℕ → Option (ℕ × List ℕ)
 numbered_at mark is_digit base bytes = do
   start ← strip mark bytes
   rest ← strip (codes ";") (after is_digit start)
-  given (nat_le 1 (length (run is_digit start)) && nat_le (length (run is_digit start)) 10 && is_character (number base (run is_digit start))) (number base (run is_digit start), rest)
+  given (are_few (run is_digit start) && is_character (numeral base (run is_digit start))) (numeral base (run is_digit start), rest)
 
 unfoldable pub reference_at : List ℕ → Option (ℕ × List ℕ)
 reference_at bytes =

@@ -2,6 +2,7 @@
 use Rattle.std.specs.Prelude.{◌≡◌, ℕ, ◌-◌, ◌||◌, ◌==◌, ◌⊎◌, Bool, true, false, List, [], ◌∷◌, ◌++◌, length, not, ◌&&◌, Option, Some, None, codes, if◌then◌else◌}
 use Rattle.std.specs.Str.{bytes_eq, str_to_ascii_lowercase}
 use Rattle.e57_base.specs.declared.kind.Kind.TheVariants.{Piece}
+use Rattle.e57_base.specs.Fault.{fault}
 use Rattle.e57_base.specs.declared.fault.TextFault.{TextFault}
 use Rattle.e57_base.specs.declared.fault.TextFault.TheVariants.{Refused, Memory}
 use Rattle.e57_pieces.specs.declared.piece.Attr.{Attr}
@@ -66,7 +67,7 @@ pub record BeginsNowhere (text : List ℕ) : Type 0 where
 abbrev pub start_place : List ℕ → ℕ
 start_place text = length text - length (after_mark text)
 
--- how the search for that place fails: with the fault Piece there, unless memory runs out
+-- how the search for that place fails: with the fault Piece there, unless memory runs out while a declaration is read
 abbrev pub IsStartFault : List ℕ → TextFault → Type 0
-IsStartFault text (Refused fault) = BeginsNowhere text × (fault ≡ record { kind = Piece; a = start_place text; b = 0 })
-IsStartFault text Memory = Unit {0}
+IsStartFault text (Refused found) = BeginsNowhere text × (found ≡ fault Piece (start_place text) 0)
+IsStartFault text Memory = declares (after_mark text) ≡ true

@@ -44,12 +44,16 @@ IsName [] = ⊥
 IsName (b ∷ bs) = (begins_name b ≡ true) × Each goes_on_name bs
 
 -- the number that digits write, the most significant first, after those that wrote n
-unfoldable pub number_from : ℕ → ℕ → List ℕ → ℕ
-number_from base n [] = n
-number_from base n (d ∷ ds) = number_from base (n * base + digit_value d) ds
+unfoldable pub numeral_from : ℕ → ℕ → List ℕ → ℕ
+numeral_from base n [] = n
+numeral_from base n (d ∷ ds) = numeral_from base (n * base + digit_value d) ds
 
-abbrev pub number : ℕ → List ℕ → ℕ
-number base digits = number_from base 0 digits
+abbrev pub numeral : ℕ → List ℕ → ℕ
+numeral base digits = numeral_from base 0 digits
+
+-- a reference by number has at most so many digits
+abbrev pub max_digits : ℕ
+max_digits = 10
 
 -- The word stands nowhere in the bytes.
 abbrev pub Absent : List ℕ → List ℕ → Type 0

@@ -36,10 +36,11 @@ fn value(alloc: Global, text: &[u8]) -> Result<(Octets, &[u8]), Stop>
     let Some((quote, inner)) = quote(text) else {
         return Err(Stop::Absent);
     };
-    let (value, close) = meaning(alloc, inner, quote)?;
+    let (mut value, close) = meaning(alloc, inner, quote)?;
     let Some(rest) = after_word(close, &[quote]) else {
         return Err(Stop::Absent);
     };
+    value.shrink_to_fit();
     Ok((Octets::new(value), rest))
 }
 
@@ -99,9 +100,10 @@ fn differ(alloc: Global, attrs: &Attrs) -> Result<bool, AllocError>
 pub fn inside(alloc: Global, text: &[u8]) -> Result<(Attrs, &[u8]), Stop>
     ensures { Gives (λ x. (x.0, x.1.now)) result (inside_at text.now) }
 {
-    let (attrs, rest) = attrs(alloc, text)?;
+    let (mut attrs, rest) = attrs(alloc, text)?;
     if !differ(alloc, &attrs)? {
         return Err(Stop::Absent);
     }
+    attrs.shrink_to_fit();
     Ok((attrs, skip_space(rest)))
 }

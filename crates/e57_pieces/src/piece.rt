@@ -60,6 +60,13 @@ impl Attrs {
         &self.list[i]
     }
 
+    /// Gives back the memory that is kept for further attributes.
+    pub fn shrink_to_fit(&mut self)
+        ensures { self.new ≡ self.old }
+    {
+        self.list.shrink_to_fit();
+    }
+
     /// Adds an attribute at the end. After want of memory the list is as it was.
     pub fn push(&mut self, attr: Attr) -> Result<(), AllocError>
         ensures ok { OnOk result (self.new ≡ self.old ++ attr ∷ []) }

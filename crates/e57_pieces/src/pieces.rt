@@ -4,8 +4,8 @@ ghost use Rattle.std.specs.Prelude.{◌≡◌, ◌==◌, ◌<◌, IfOk, IfNone, 
 ghost use Rattle.e57_pieces.specs.declared.piece.Piece.{Piece};
 ghost use Rattle.e57_pieces.specs.Cut.{IsNext, NoPiece};
 ghost use Rattle.e57_pieces.specs.Start.{Begins, IsStartFault};
-ghost use Rattle.e57_pieces.specs.Reading.{IsCleanAt, next_at, body_at};
-ghost use Rattle.e57_pieces.specs.Gives.{StopsNext, DeclaredBefore, StopsDeclaration, StopsStart};
+ghost use Rattle.e57_pieces.specs.Reading.{IsCleanAt, body_at};
+ghost use Rattle.e57_pieces.specs.Gives.{StopsNext, DeclaredClean, StopsDeclaration, StopsStart, IsFoundNext, IsNextRead};
 
 use crate::characters::characters_len;
 use crate::markup::piece;
@@ -54,7 +54,7 @@ fn next_of(alloc: Global, text: &[u8], clean: usize) -> Result<(Piece, &[u8], us
 /// What follows the declaration of a text, and how many bytes of that are characters.
 fn after_declaration(alloc: Global, text: &[u8], clean: usize) -> Result<(&[u8], usize), Stop>
     requires { IsCleanAt text.now clean }
-    ensures { MatchResult result (λ x. DeclaredBefore text.now x.0.now × IsCleanAt x.0.now x.1) (λ stop. StopsDeclaration stop text.now) }
+    ensures { MatchResult result (λ x. DeclaredClean text.now x.0.now x.1) (λ stop. StopsDeclaration stop text.now) }
 {
     let (front, _) = text.split_at(clean);
     match declaration(alloc, front) {
@@ -90,11 +90,10 @@ impl<'a> Pieces<'a> {
     {
         match body_of(alloc, text) {
             Ok((text, clean)) => Ok(Pieces { text, clean }),
-            Err(Stop::Absent) => Err(TextFault::Refused(Fault {
-                kind: Kind::Piece,
-                a: (text.len() - skip_mark(text).len()) as u64,
-                b: 0,
-            })),
+            Err(Stop::Absent) => {
+                let place = text.len() - skip_mark(text).len();
+                Err(TextFault::Refused(Fault::new(Kind::Piece, place as u64, 0)))
+            }
             Err(Stop::Memory) => Err(TextFault::Memory),
         }
     }
@@ -117,8 +116,8 @@ impl<'a> Pieces<'a> {
     /// there is none, what is left is as it was.
     pub fn next(&mut self, alloc: Global) -> Result<Option<Piece>, AllocError>
         ensures next { IfOk result (λ found. MatchOption found (NoPiece self.old) (λ piece. IsNext self.old piece self.new)) }
-        ensures only { (piece : Piece) (rest : List ℕ) → IsNext self.old piece rest → IfOk result (λ found. (found ≡ Some piece) × (self.new ≡ rest)) }
-        ensures exact { IfOk result (λ found. MatchOption found (next_at self.old ≡ None) (λ piece. next_at self.old ≡ Some (piece, self.new))) }
+        ensures only { IfOk result (λ found. IsFoundNext self.old found self.new) }
+        ensures exact { IfOk result (λ found. IsNextRead self.old found self.new) }
         ensures shorter { IfOk result (λ found. OnSome found (length self.new < length self.old)) }
         ensures none { IfOk result (λ found. IfNone found (self.new ≡ self.old)) }
         ensures err { OnErr result (self.new ≡ self.old) }

@@ -4,12 +4,15 @@ ghost use Rattle.std.specs.Prelude.{◌≡◌, ◌++◌, ◌≤◌, ◌<◌, ◌
 ghost use Rattle.std.specs.Option.{option_map};
 ghost use Rattle.std.specs.Char.{digit_value as value_of_digit};
 ghost use Rattle.e57_pieces.specs.Characters.{is_character};
-ghost use Rattle.e57_pieces.specs.Words.{class_test, is_plain, number as number_of_digits};
+ghost use Rattle.e57_pieces.specs.Words.{class_test, is_plain, max_digits, numeral as numeral_of_digits};
 ghost use Rattle.e57_pieces.specs.Reading.{run, after, given, named_at, numbered_at, reference_at, text_at};
 
 use crate::words::{Class, after_word, split_front};
 use memchr::memchr3;
 use std::alloc::{AllocError, Global};
+
+/// The most digits of a reference by number.
+const MAX_DIGITS: usize = 10;
 
 /// The value of a digit or a letter, and 36 of any other byte.
 fn digit_value(b: u8) -> u64
@@ -25,10 +28,10 @@ fn digit_value(b: u8) -> u64
 }
 
 /// The number that digits write.
-fn number(digits: &[u8], base: u64) -> u64
+fn numeral(digits: &[u8], base: u64) -> u64
     requires base { base ≤ 16 }
-    requires few { length digits.now ≤ 10 }
-    ensures { result ≡ number_of_digits base digits.now }
+    requires few { length digits.now ≤ max_digits }
+    ensures { result ≡ numeral_of_digits base digits.now }
 {
     let mut number = 0;
     for b in digits {
@@ -71,10 +74,10 @@ fn numbered<'a>(text: &'a [u8], mark: &[u8], class: Class, base: u64) -> Option<
     let start = after_word(text, mark)?;
     let (digits, after) = split_front(start, class);
     let rest = after_word(after, b";")?;
-    if digits.is_empty() || digits.len() > 10 {
+    if digits.is_empty() || digits.len() > MAX_DIGITS {
         return None;
     }
-    let c = character(number(digits, base))?;
+    let c = character(numeral(digits, base))?;
     Some((c, rest))
 }
 

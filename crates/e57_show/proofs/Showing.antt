@@ -9,7 +9,7 @@ use Rattle.e57_elements.specs.Lawful.{IsLawful}
 use Rattle.e57_elements.specs.Spells.{Spells, Reads}
 use Rattle.e57_elements.specs.Spelling.{spelling}
 use Rattle.e57_elements.specs.Fault.{IsFirstFault}
-use Rattle.e57_file.specs.Told.{told_map, told_both}
+use Rattle.e57_base.specs.Told.{told_map, told_both}
 use Rattle.e57_file.specs.Section.{section_fault, section_text}
 use Rattle.e57_file.specs.Text.{IsTextRead}
 use Rattle.e57_show.specs.Info.{HasNoTextFault, IsShown, ShowsText}

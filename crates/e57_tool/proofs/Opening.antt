@@ -11,11 +11,12 @@ use Rattle.e57_base.specs.declared.fault.ReadFault.TheVariants.{Refused, Source}
 use Rattle.e57_base.specs.declared.fault.RunFault.TheVariants as run
 use Rattle.e57_base.specs.declared.kind.Kind.TheVariants.{FileLength}
 use Rattle.e57_page.specs.declared.header.Header.{Header}
-use Rattle.e57_page.specs.Header.{header_of, fault}
+use Rattle.e57_base.specs.Fault.{fault}
+use Rattle.e57_page.specs.Header.{header_of}
 use Rattle.e57_page.specs.File.{length_fault, opening_fault}
 use Rattle.e57_page.specs.Pages.{AsksFor, is_opening_kind, IsOpened, IsNotOpened, IsRefusedByPage}
-use Rattle.e57_file.specs.Told.{told_map, told_here, length_told}
-use Rattle.e57_tool.specs.Run.{OpensOnce, IsOpen}
+use Rattle.e57_base.specs.Told.{told_map, told_here, length_told}
+use Rattle.e57_base.specs.Opening.{OpensOnce, IsOpen}
 use Rattle.e57_tool.specs.Opening.{IsOpenedFile, IsRefusedFile, IsUnopenedFile}
 
 -- the file is opened, and then the source does no more than to give pages

@@ -13,9 +13,9 @@ use Rattle.e57_page.specs.Header.{header_fault, header_of}
 use Rattle.e57_page.specs.File.{length_fault, page_fault, pages_fault, opening_fault}
 use Rattle.e57_page.specs.FileLaws.{pages_fault-found, pages_fault-zero, whole_length}
 use Rattle.e57_page.specs.Pages.{IsScanned, IsScannedTo, is_opening_kind}
-use Rattle.e57_file.specs.Told.{told_map, told_both, told_here}
+use Rattle.e57_base.specs.Told.{told_map, told_both, told_here}
 use Rattle.e57_tool.specs.Lines.{pages_line}
-use Rattle.e57_tool.specs.Run.{OpensOnce, IsOpen}
+use Rattle.e57_base.specs.Opening.{OpensOnce, IsOpen}
 use Rattle.e57_tool.specs.Opening.{IsOpenedFile, IsUnopenedFile}
 use Rattle.e57_tool.specs.Pages.{pages_verdict, IsPagesFault, HasSoundPages, IsPagesOutput, PagesEnds}
 use Rattle.e57_tool.proofs.Opening.{opens_later, open_later}

@@ -14,8 +14,8 @@ use Rattle.e57_page.specs.Pages.{is_opening_kind}
 use Rattle.e57_file.specs.Section.{start_of, IsTextFault}
 use Rattle.e57_file.specs.Text.{AsksForSection, is_text_kind}
 use Rattle.e57_show.specs.Info.{InfoEnds, ShowsText, HasNoTextFault, IsShown}
-use Rattle.e57_file.specs.Told.{told_map, told_both, told_here}
-use Rattle.e57_tool.specs.Run.{OpensOnce, IsOpen}
+use Rattle.e57_base.specs.Told.{told_map, told_both, told_here}
+use Rattle.e57_base.specs.Opening.{OpensOnce, IsOpen}
 use Rattle.e57_tool.specs.Opening.{IsOpenedFile, IsUnopenedFile, AsksAtMostForFirst}
 use Rattle.e57_tool.specs.Info.{IsInfoFault, HasSoundText, IsInfoOutput, IsTextAsk, AsksForText, InfoRunEnds}
 use Rattle.e57_tool.proofs.Opening.{opens_later, open_later}

@@ -14,7 +14,8 @@ use Rattle.e57_page.specs.Pages.{is_opening_kind}
 use Rattle.e57_file.specs.Section.{start_of, IsTextFault}
 use Rattle.e57_file.specs.Text.{is_text_kind}
 use Rattle.e57_show.specs.Info.{IsShown}
-use Rattle.e57_tool.specs.Run.{OpensOnce, Completes, FindsFault, LosesSource, LosesOut}
+use Rattle.e57_base.specs.Opening.{OpensOnce}
+use Rattle.e57_tool.specs.Run.{Completes, FindsFault, LosesSource, LosesOut}
 
 -- the first fault of the length, the header, page 0, and the XML section with its text
 abbrev pub IsInfoFault : List ℕ → Fault → Type 0

@@ -9,7 +9,7 @@ use Rattle.e57_page.specs.declared.header.Header.{Header}
 use Rattle.e57_page.specs.Header.{header_of}
 use Rattle.e57_page.specs.File.{opening_fault}
 use Rattle.e57_page.specs.Pages.{is_opening_kind}
-use Rattle.e57_tool.specs.Run.{OpensOnce, IsOpen}
+use Rattle.e57_base.specs.Opening.{OpensOnce, IsOpen}
 
 -- The file is open, and its length, header and page 0 have no fault. Page 0 was asked for, once, and is kept.
 pub record IsOpenedFile (name : List ℕ) (old : SourceView) (size : ℕ) (header : Header) (kept : ℕ) (new : SourceView) : Type 0 where

@@ -1,8 +1,9 @@
 -- How a run of the program ends: its status, and what the objects received.
 use Rattle.std.specs.Prelude.{◌≡◌, ◌⊎◌, ℕ, ◌≤◌, List, Bool, true, if◌then◌else◌, Option, Some, None, IsSome, IfSome, option_and_then}
 use Rattle.std.specs.FinMap.{get}
-use Rattle.e57_base.specs.Count.{raised, Rose}
-use Rattle.e57_base.specs.Source.{SourceView, misses}
+use Rattle.e57_base.specs.Count.{Rose}
+use Rattle.e57_base.specs.Source.{SourceView}
+use Rattle.e57_base.specs.Opening.{OpensOnce, IsOpen}
 use Rattle.e57_base.specs.Sink.{SinkView, Grows, GrowsByFront}
 use Rattle.e57_base.specs.declared.fault.Fault.{Fault}
 use Rattle.e57_base.specs.declared.fault.RunFault.{RunFault}
@@ -11,18 +12,6 @@ use Rattle.e57_base.specs.declared.kind.Kind.{Kind}
 use Rattle.e57_tool.specs.declared.status.Status.{Status}
 use Rattle.e57_tool.specs.declared.status.Status.TheVariants as status
 use Rattle.e57_tool.specs.Lines.{refused_line, source_line, out_line, memory_line, words_line}
-
--- The file of this name was opened or failed to open, once, and no other name was tried.
-pub record OpensOnce (old : SourceView) (name : List ℕ) (new : SourceView) : Type 0 where
-  pub stock : new.stock ≡ old.stock
-  pub opened : new.opened ≡ raised old.opened
-  pub missed : new.missed ≡ (if misses old.stock name then raised old.missed else old.missed)
-  pub faults : old.faults ≤ new.faults
-
--- the file of this name is open
-pub record IsOpen (old : SourceView) (name : List ℕ) (new : SourceView) : Type 0 where
-  pub size : IsSome new.size
-  pub held : IfSome old.stock (λ files. new.held ≡ get files name)
 
 -- The file has no fault that the command names, and its whole output was put.
 pub record Completes (is_sound : List ℕ → Type 0) (is_output : List ℕ → List ℕ → Type 0) (name : List ℕ) (old new : SourceView) (out out' : SinkView) : Type 0 where

@@ -8,10 +8,10 @@ use Rattle.std.proofs.lemmas.List.{length-append, append-nil}
 use Rattle.e57_pieces.specs.Laws.Characters.{and_true, both_true}
 use Rattle.e57_pieces.specs.Laws.Fronts.{Took, bind_some, given_some, map_some, or_some, strip_took, strip_again, Stops, run_after, run_each, after_stops, run_stops, run_again}
 use Rattle.e57_pieces.specs.Characters.{is_character}
-use Rattle.e57_pieces.specs.Words.{is_decimal, is_hexadecimal, is_plain, Each, number}
+use Rattle.e57_pieces.specs.Words.{is_decimal, is_hexadecimal, is_plain, Each, numeral, max_digits}
 use Rattle.e57_pieces.specs.Grammar.{IsNamed, IsNumbered, IsReference, IsPart, Means}
 use Rattle.e57_pieces.specs.Start.{strip}
-use Rattle.e57_pieces.specs.Reading.{◌>>=◌, given, run, after, named_at, numbered_at, reference_at, parts_then, parts_at, text_at}
+use Rattle.e57_pieces.specs.Reading.{◌>>=◌, given, run, after, named_at, are_few, numbered_at, reference_at, parts_then, parts_at, text_at}
 
 -- ---- references
 
@@ -26,14 +26,14 @@ regroup text mark start digits left rest e f g = e ∙ ap (λ (t : List ℕ). ma
 numbered_took : (mark : List ℕ) (is_digit : ℕ → Bool) (base : ℕ) (text : List ℕ) (x : ℕ × List ℕ) → numbered_at mark is_digit base text ≡ Some x → Took text x.1 (λ s. IsNumbered mark is_digit base s x.0)
 unfolding numbered_at
 numbered_took mark is_digit base text x e =
-    let a = bind_some (strip mark text) (λ (start : List ℕ). strip (codes ";") (after is_digit start) >>= λ (rest : List ℕ). given (leb 1 (length (run is_digit start)) && leb (length (run is_digit start)) 10 && is_character (number base (run is_digit start))) (number base (run is_digit start), rest)) x e in
-    let b = bind_some (strip (codes ";") (after is_digit a.0)) (λ (rest : List ℕ). given (leb 1 (length (run is_digit a.0)) && leb (length (run is_digit a.0)) 10 && is_character (number base (run is_digit a.0))) (number base (run is_digit a.0), rest)) x a.2 in
-    let g = given_some (leb 1 (length (run is_digit a.0)) && leb (length (run is_digit a.0)) 10 && is_character (number base (run is_digit a.0))) (number base (run is_digit a.0), b.0) x b.2 in
-    let h = and_true (leb 1 (length (run is_digit a.0)) && leb (length (run is_digit a.0)) 10) (is_character (number base (run is_digit a.0))) g.0 in
-    let l = and_true (leb 1 (length (run is_digit a.0))) (leb (length (run is_digit a.0)) 10) h.0 in
+    let a = bind_some (strip mark text) (λ (start : List ℕ). strip (codes ";") (after is_digit start) >>= λ (rest : List ℕ). given (are_few (run is_digit start) && is_character (numeral base (run is_digit start))) (numeral base (run is_digit start), rest)) x e in
+    let b = bind_some (strip (codes ";") (after is_digit a.0)) (λ (rest : List ℕ). given (are_few (run is_digit a.0) && is_character (numeral base (run is_digit a.0))) (numeral base (run is_digit a.0), rest)) x a.2 in
+    let g = given_some (are_few (run is_digit a.0) && is_character (numeral base (run is_digit a.0))) (numeral base (run is_digit a.0), b.0) x b.2 in
+    let h = and_true (are_few (run is_digit a.0)) (is_character (numeral base (run is_digit a.0))) g.0 in
+    let l = and_true (leb 1 (length (run is_digit a.0))) (leb (length (run is_digit a.0)) max_digits) h.0 in
     let some_digits : 0 < length (run is_digit a.0) = omega (arith, leb-true 1 (length (run is_digit a.0)) l.0) in
-    let few_digits : length (run is_digit a.0) ≤ 10 = leb-true (length (run is_digit a.0)) 10 l.1 in
-    let made : Took text b.0 (λ s. IsNumbered mark is_digit base s (number base (run is_digit a.0))) = record {
+    let few_digits : length (run is_digit a.0) ≤ max_digits = leb-true (length (run is_digit a.0)) max_digits l.1 in
+    let made : Took text b.0 (λ s. IsNumbered mark is_digit base s (numeral base (run is_digit a.0))) = record {
       spelling = mark ++ run is_digit a.0 ++ codes ";";
       holds = record { digits = run is_digit a.0; each = run_each is_digit a.0; some = some_digits; few = few_digits; value = refl; character = h.1; spelled = refl };
       parts = regroup text mark a.0 (run is_digit a.0) (after is_digit a.0) b.0 (strip_took mark text a.0 a.1) (run_after is_digit a.0) (strip_took (codes ";") (after is_digit a.0) b.0 b.1);
@@ -106,8 +106,8 @@ unfolding numbered_at
 numbered_again mark is_digit base c s rest is ends =
     let again = run_again is_digit is.digits (59 ∷ rest) is.each ends in
     let close : strip (codes ";") (59 ∷ rest) ≡ Some rest = strip_again (codes ";") rest in
-    let fits : (leb 1 (length is.digits) && leb (length is.digits) 10 && is_character (number base is.digits)) ≡ true =
-    both_true _ _ (both_true _ _ (le-leb 1 (length is.digits) (omega (arith, is.some))) (le-leb (length is.digits) 10 is.few)) (subst (λ (n : ℕ). is_character n ≡ true) is.value is.character) in
+    let fits : (are_few is.digits && is_character (numeral base is.digits)) ≡ true =
+    both_true _ _ (both_true _ _ (le-leb 1 (length is.digits) (omega (arith, is.some))) (le-leb (length is.digits) max_digits is.few)) (subst (λ (n : ℕ). is_character n ≡ true) is.value is.character) in
     rw (strip_again mark (is.digits ++ (59 ∷ rest)), again.1, close, again.0, fits, is.value) refl
 
 spelled_out : (mark digits s rest : List ℕ) → s ≡ mark ++ digits ++ codes ";" → s ++ rest ≡ mark ++ (digits ++ (59 ∷ rest))

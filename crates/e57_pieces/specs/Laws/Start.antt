@@ -169,6 +169,17 @@ pub begins_somewhere : (text body : List ℕ) → Begins text body → BeginsNow
 begins_somewhere text body (inl is) none = both_ways (declares (after_mark text)) none.declared is.0
 begins_somewhere text body (inr is) none = none.no_declaration is.1 body is.3 is.2
 
+no_some : (x : List ℕ) → None ≡ Some x → ⊥
+no_some x e = cc
+
+-- the pieces begin nowhere where no place is read
+pub begins_nowhere : (text : List ℕ) → IsUtf8 text → body_at text ≡ None → BeginsNowhere text
+begins_nowhere text utf8 e =
+    elim (tested (declares (after_mark text))) [
+      | inr plain ↦ absurd (no_some (after_mark text) (sym e ∙ body_plain text plain))
+      | inl there ↦ record { declared = there; no_declaration = λ spelling rest parts is. no_some rest (sym e ∙ body_is text rest utf8 (inr (there, spelling, is, parts))) }
+    ]
+
 pub IsUtf8-body : (text body : List ℕ) → IsUtf8 text → Begins text body → IsUtf8 body
 IsUtf8-body text body utf8 (inl is) = subst (λ (u : List ℕ). IsUtf8 u) (sym is.1) (IsUtf8-after_mark text utf8)
 IsUtf8-body text body utf8 (inr is) = IsUtf8-after is.1 body (subst (λ (u : List ℕ). IsUtf8 u) is.3 (IsUtf8-after_mark text utf8)) is.2.characters

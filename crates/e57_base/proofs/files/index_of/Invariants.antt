@@ -1,6 +1,6 @@
 use Rattle.std.proofs.Common.{◌≡◌, drop}
 use Rattle.e57_base.proofs.NamedFiles.{found_in}
-use Rattle.e57_base.proofs.files.place_of.Given as goal
+use Rattle.e57_base.proofs.files.index_of.Given as goal
 
 -- none of the files before this place has the name
 abbrev pub invariant-loop-place : goal.invariant-loop-place

@@ -1,7 +1,7 @@
 use Rattle.std.proofs.Common.{◌≡◌, true, false}
 use Rattle.std.specs.Str.{bytes_eq}
 use Rattle.e57_base.proofs.NamedFiles.{found_here, found_later, found_nowhere}
-use Rattle.e57_base.proofs.files.place_of.Goals as goal
+use Rattle.e57_base.proofs.files.index_of.Goals as goal
 
 pub returns-then-eq-clause-found : goal.returns-then-eq-clause-found
 returns-then-eq-clause-found c =

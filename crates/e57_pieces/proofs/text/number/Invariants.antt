@@ -1,9 +1,0 @@
-use Rattle.std.proofs.Common.{◌≡◌, ◌<◌, ◌^◌, drop}
-use Rattle.e57_pieces.specs.Words.{number_from}
-use Rattle.e57_pieces.proofs.text.number.Given as goal
-
-abbrev pub invariant-loop-b : goal.invariant-loop-b
-invariant-loop-b l = record {
-  value : number_from l.base l.number (drop l.b-index l.digits) ≡ number_from l.base 0 l.digits;
-  small : l.number < 64 ^ l.b-index;
-}
