@@ -1,0 +1,3 @@
+//! What the binary section of a cloud holds (ASTM E2807, compressed vector sections): its first fault, its packets, its
+//! index, its chunks, its records, and one item by its record number. Definitions and their laws; no code.
+#![tactic(auto)]
