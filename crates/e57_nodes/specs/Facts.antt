@@ -3,7 +3,7 @@ use Rattle.std.specs.Prelude.{ℕ, ◌+◌, ◌-◌, ◌^◌, nat_lt, nat_le, �
 use Rattle.std.specs.List.{list_all}
 use Rattle.std.specs.Str.{bytes_eq}
 use Rattle.e57_pieces.specs.declared.piece.Attr.{Attr}
-use Rattle.e57_pieces.specs.Words.{is_space, is_decimal, number}
+use Rattle.e57_pieces.specs.Words.{is_space, is_decimal, numeral}
 use Rattle.e57_nodes.specs.declared.ElementType.{ElementType}
 use Rattle.e57_nodes.specs.declared.ElementType.TheVariants as element_type
 
@@ -25,7 +25,7 @@ when_below bound n = if nat_lt n bound then Some n else None
 -- the number that 1 to 64 decimal digits write, where it is below the bound
 unfoldable pub digits_below : ℕ → List ℕ → Option ℕ
 digits_below bound digits =
-    if nat_lt 0 (length digits) && (nat_le (length digits) 64 && list_all is_decimal digits) then when_below bound (number 10 digits) else None
+    if nat_lt 0 (length digits) && (nat_le (length digits) 64 && list_all is_decimal digits) then when_below bound (numeral 10 digits) else None
 
 -- an optional `-` or `+`, and the digits of a signed number of 64 bits
 unfoldable pub signed_from : List ℕ → Option ℤ

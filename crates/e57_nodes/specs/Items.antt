@@ -1,7 +1,9 @@
 -- The clouds and blobs of a tree, in document order.
-use Rattle.std.specs.Prelude.{ℕ, List, [], ◌∷◌, Option, Some, None, unwrap_or}
+use Rattle.std.specs.Prelude.{ℕ, List, [], ◌∷◌, map, Option, Some, None, unwrap_or}
 use Rattle.std.specs.List.{filter_map}
 use Rattle.e57_layout.specs.declared.field.Field.{Field}
+use Rattle.e57_layout.specs.Values.{item_kind}
+use Rattle.e57_sections.specs.Cloud.{Leaf}
 use Rattle.e57_nodes.specs.declared.ElementType.{ElementType}
 use Rattle.e57_nodes.specs.declared.ElementType.TheVariants as element_type
 use Rattle.e57_nodes.specs.Shape.{Shape, Node, nodes_from}
@@ -23,3 +25,7 @@ stated_item x = stated_by x x.facts.element_type
 
 abbrev pub stated_items : Shape → List StatedItem
 stated_items tree = filter_map stated_item (nodes_from 0 tree)
+
+-- fields as the reading of a section knows them, which has no use for paths, scales and offsets
+abbrev pub leaves_of : List Field → List Leaf
+leaves_of fields = map (λ (field : Field). record { node = field.node; kind = item_kind field.kind }) fields

@@ -4,8 +4,9 @@ use Rattle.std.specs.Option.{option_or}
 use Rattle.std.specs.Str.{bytes_eq}
 use Rattle.e57_base.specs.declared.fault.Fault.{Fault}
 use Rattle.e57_base.specs.declared.kind.Kind.TheVariants as kind
-use Rattle.e57_page.specs.Header.{fault}
+use Rattle.e57_base.specs.Fault.{fault}
 use Rattle.e57_layout.specs.declared.field.Field.{Field}
+use Rattle.e57_sections.specs.Section.{when}
 use Rattle.e57_nodes.specs.declared.ElementType.{ElementType}
 use Rattle.e57_nodes.specs.declared.ElementType.TheVariants as element_type
 use Rattle.e57_nodes.specs.Facts.{Facts}
@@ -19,10 +20,6 @@ max_records = 2 ^ 40
 
 abbrev pub max_fields : ℕ
 max_fields = 512
-
--- this fault where the test holds
-abbrev pub when : Bool → Fault → Option Fault
-when test found = if test then Some found else None
 
 -- ---- the tests of a node with number n, in their order
 

@@ -12,7 +12,7 @@ use Rattle.std.specs.Str.{encode_utf8_all}
 use Rattle.std.proofs.lemmas.Str.{encode_ascii}
 use Rattle.e57_pieces.specs.Characters.{is_character, AreCharacters}
 use Rattle.e57_pieces.specs.Laws.Characters.{or_left, or_right}
-use Rattle.e57_pieces.specs.Words.{is_space, is_decimal, number, number_from}
+use Rattle.e57_pieces.specs.Words.{is_space, is_decimal, numeral, numeral_from}
 use Rattle.e57_nodes.specs.Facts.{without_space, trimmed, when_below, digits_below, signed_from, unsigned_from, signed_in, unsigned_in}
 
 -- The bytes are decimal digits.
@@ -27,35 +27,35 @@ all-append : {X : Type 0} (P : X → Type 0) (xs ys : List X) → AllByRecursion
 all-append P [] ys f g = g
 all-append P (x ∷ xs) ys f g = (f.0, all-append P xs ys f.1 g)
 
-number_from-append : (base n : ℕ) (xs ys : List ℕ) → number_from base n (xs ++ ys) ≡ number_from base (number_from base n xs) ys
-unfolding number_from
-number_from-append base n [] ys = refl
-number_from-append base n (x ∷ xs) ys = number_from-append base (n * base + digit_value x) xs ys
+numeral_from-append : (base n : ℕ) (xs ys : List ℕ) → numeral_from base n (xs ++ ys) ≡ numeral_from base (numeral_from base n xs) ys
+unfolding numeral_from
+numeral_from-append base n [] ys = refl
+numeral_from-append base n (x ∷ xs) ys = numeral_from-append base (n * base + digit_value x) xs ys
 
 -- The bytes are the digits of a number.
 pub record Writes (n : ℕ) (bytes : List ℕ) : Type 0 where
   pub some : 0 < length bytes
   pub digits : AreDigits bytes
-  pub value : number 10 bytes ≡ n
+  pub value : numeral 10 bytes ≡ n
 
 one_digit : (n : ℕ) → n < 10 → Writes n ((48 + n) ∷ [])
-unfolding number_from
+unfolding numeral_from
 one_digit n h =
     let digit : IsDigit (48 + n) = record { low = omega arith; high = omega arith } in
     let v = digit_value_digit (48 + n) (omega arith, omega arith) in
     record { some = omega arith; digits = (digit, tt); value = omega arith }
 
 more_digits : (n : ℕ) (ds : List ℕ) → 10 ≤ n → Writes (n / 10) ds → Writes n (ds ++ ((48 + n % 10) ∷ []))
-unfolding number_from
+unfolding numeral_from
 more_digits n ds h w =
     let digit : IsDigit (48 + n % 10) = record { low = omega arith; high = omega arith } in
     let v = digit_value_digit (48 + n % 10) (omega arith, omega arith) in
-    let e = number_from-append 10 0 ds ((48 + n % 10) ∷ []) in
+    let e = numeral_from-append 10 0 ds ((48 + n % 10) ∷ []) in
     let k = w.value in
     record {
       some = omega (arith, length-append ds ((48 + n % 10) ∷ []));
       digits = all-append IsDigit ds ((48 + n % 10) ∷ []) w.digits (digit, tt);
-      value = e ∙ last (number_from 10 0 ds) k v;
+      value = e ∙ last (numeral_from 10 0 ds) k v;
     }
   where
     last : (m : ℕ) → m ≡ n / 10 → digit_value (48 + n % 10) + 48 ≡ 48 + n % 10 → m * 10 + digit_value (48 + n % 10) ≡ n

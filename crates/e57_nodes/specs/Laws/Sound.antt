@@ -9,22 +9,23 @@ use Rattle.std.proofs.lemmas.List.Elements.{filter_map-append}
 use Rattle.std.proofs.lemmas.Bool.{ltb-true, ltb-false, eqb-false}
 use Rattle.e57_base.specs.declared.fault.Fault.{Fault}
 use Rattle.e57_base.specs.declared.kind.Kind.TheVariants as kind
-use Rattle.e57_page.specs.Header.{fault}
+use Rattle.e57_base.specs.Fault.{fault}
 use Rattle.e57_pieces.specs.declared.piece.Attr.{Attr}
-use Rattle.e57_pieces.specs.Words.{is_decimal, number}
+use Rattle.e57_pieces.specs.Words.{is_decimal, numeral}
 use Rattle.e57_elements.specs.Tree.{Element, element, Elements, none, more}
 use Rattle.e57_layout.specs.declared.field.Field.{Field}
 use Rattle.e57_layout.specs.declared.field.FieldKind.{FieldKind}
 use Rattle.e57_layout.specs.declared.field.FieldKind.TheVariants.{Int, Scaled, Bits32, Bits64, Text}
 use Rattle.e57_layout.specs.Values.{ItemKind, integers, words, strings, item_kind, kind_width, AreLimits, IsValidField}
 use Rattle.e57_layout.specs.Laws.Widths.{width-le}
+use Rattle.e57_sections.specs.Section.{when}
 use Rattle.e57_nodes.specs.declared.ElementType.{ElementType}
 use Rattle.e57_nodes.specs.declared.ElementType.TheVariants as element_type
 use Rattle.e57_nodes.specs.Facts.{when_below, digits_below, signed_from, unsigned_from, signed_in, unsigned_in, trimmed, value_of, read_or, precision_named, least_integer, greatest_integer, type_in, Facts, facts_of}
 use Rattle.e57_nodes.specs.Shape.{Shape, shape, Shapes, no_shapes, shapes, shape_of, shapes_of, node_count, node_count_all, Node, node_at, children_from, children_of, nodes_from, nodes_from_all, nodes_below}
 use Rattle.e57_nodes.specs.Paths.{counts_children, child_path}
 use Rattle.e57_nodes.specs.Fields.{child_named, float_kind, kind_of, field_at, fields_from, fields_from_all, fields_below, fields_of}
-use Rattle.e57_nodes.specs.Typed.{max_records, max_fields, when, unread, type_fault, name_fault, child_fault, attr_fault, integer_fault, order_fault, limits_fault, codecs_fault, prototype_fault, field_count_fault, compressed_vector_fault, node_fault, names_differ, namesake_of, tree_fault, trees_fault, typed_fault}
+use Rattle.e57_nodes.specs.Typed.{max_records, max_fields, unread, type_fault, name_fault, child_fault, attr_fault, integer_fault, order_fault, limits_fault, codecs_fault, prototype_fault, field_count_fault, compressed_vector_fault, node_fault, names_differ, namesake_of, tree_fault, trees_fault, typed_fault}
 use Rattle.e57_nodes.specs.Items.{StatedItem, stated_cloud, stated_blob, stated_by, stated_item, stated_items}
 
 -- ---- what is promised
@@ -76,8 +77,8 @@ when_below-lt bound m n e = by_test (ltb m bound) refl e where
 digits_below-lt : (bound n : ℕ) (digits : List ℕ) → digits_below bound digits ≡ Some n → n < bound
 unfolding digits_below
 digits_below-lt bound n digits e = by_test (ltb 0 (length digits) && (leb (length digits) 64 && list_all is_decimal digits)) e where
-  by_test : (b : Bool) → cond {A = Option ℕ} b (when_below bound (number 10 digits)) None ≡ Some n → n < bound
-  by_test true e = when_below-lt bound (number 10 digits) n e
+  by_test : (b : Bool) → cond {A = Option ℕ} b (when_below bound (numeral 10 digits)) None ≡ Some n → n < bound
+  by_test true e = when_below-lt bound (numeral 10 digits) n e
   by_test false e = absurd (cc)
 
 unsigned_from-lt : (bytes : List ℕ) (n : ℕ) → unsigned_from bytes ≡ Some n → n < 2 ^ 64

@@ -5,16 +5,17 @@ use Rattle.std.specs.Option.{option_or}
 use Rattle.std.specs.List.{AllByRecursion, filter_map, cons_option}
 use Rattle.std.proofs.lemmas.List.Elements.{filter_map-append}
 use Rattle.e57_base.specs.declared.kind.Kind.TheVariants as kind
-use Rattle.e57_page.specs.Header.{fault}
+use Rattle.e57_base.specs.Fault.{fault}
 use Rattle.e57_pieces.specs.declared.piece.Attr.{Attr}
 use Rattle.e57_elements.specs.declared.tree.RawNode.{RawNode}
 use Rattle.e57_elements.specs.Tree.{Element, element, Elements, none, more, preorder, preorder_all}
+use Rattle.e57_sections.specs.Section.{when}
 use Rattle.e57_nodes.specs.declared.ElementType.{ElementType}
 use Rattle.e57_nodes.specs.declared.ElementType.TheVariants as element_type
 use Rattle.e57_nodes.specs.Facts.{value_of, unsigned_in, type_in, Facts, facts_of}
 use Rattle.e57_nodes.specs.Shape.{Shape, shape, Shapes, no_shapes, shapes, shape_of, shapes_of, node_count, Node, node_at, nodes_from, nodes_from_all}
 use Rattle.e57_nodes.specs.Places.{has_section, is_cloud_or_blob, place_name, stated_place, places_in}
-use Rattle.e57_nodes.specs.Typed.{when, unread, attr_fault, typed_fault}
+use Rattle.e57_nodes.specs.Typed.{unread, attr_fault, typed_fault}
 use Rattle.e57_nodes.specs.Items.{StatedItem, stated_by, stated_item, stated_items}
 use Rattle.e57_nodes.specs.Laws.Places.{IsPlaced, ArePlaced, item_count}
 use Rattle.e57_nodes.specs.Laws.Sound.{IsSound, AreSound, sound_nodes, option_or-none, when-none}
