@@ -1,0 +1,4 @@
+mod Lists
+mod Digits
+mod Spaces
+mod Named

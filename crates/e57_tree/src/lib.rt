@@ -1,0 +1,5 @@
+//! The tree of typed elements: clouds with their fields, and blobs; or the first fault of the first node at fault.
+#![tactic(auto)]
+
+mod attributes;
+mod numbers;
