@@ -37,14 +37,20 @@ name_fault n namesake name =
 abbrev pub is_misplaced : Node → Bool
 is_misplaced child = not (bytes_eq child.facts.name (codes "prototype") || bytes_eq child.facts.name (codes "codecs"))
 
--- A CompressedVector has a `prototype`, perhaps `codecs`, and no other child; a leaf and a Blob have no child.
-unfoldable pub child_fault : ℕ → Option ElementType → List Node → Option Fault
-child_fault n (Some element_type.CompressedVector) children =
+abbrev pub vector_child_fault : ℕ → List Node → Option Fault
+vector_child_fault n children =
     option_or (option_map (λ (x : Node). fault kind.NodeChild n x.number) (find is_misplaced children))
     (when (not (is_some (child_named (codes "prototype") children))) (fault kind.NodeChild n n))
+
+abbrev pub leaf_child_fault : ℕ → List Node → Option Fault
+leaf_child_fault n children = option_map (λ (x : Node). fault kind.NodeChild n x.number) (slice_get children 0)
+
+-- A CompressedVector has a `prototype`, perhaps `codecs`, and no other child; a leaf and a Blob have no child.
+unfoldable pub child_fault : ℕ → Option ElementType → List Node → Option Fault
+child_fault n (Some element_type.CompressedVector) children = vector_child_fault n children
 child_fault n (Some element_type.Structure) children = None
 child_fault n (Some element_type.Vector) children = None
-child_fault n (Some leaf) children = option_map (λ (x : Node). fault kind.NodeChild n x.number) (slice_get children 0)
+child_fault n (Some leaf) children = leaf_child_fault n children
 child_fault n None children = None
 
 -- the attribute with this number isn't readable
@@ -54,13 +60,22 @@ unread n attribute found = when (not (is_some found)) (fault kind.NodeAttr n att
 abbrev pub integer_fault : ℕ → Facts → Option Fault
 integer_fault n facts = option_or (unread n 1 facts.minimum) (option_or (unread n 2 facts.maximum) (when (not facts.is_integer) (fault kind.NodeAttr n 7)))
 
+abbrev pub float_fault : ℕ → Facts → Option Fault
+float_fault n facts = unread n 3 facts.precision
+
+abbrev pub vector_attr_fault : ℕ → Facts → Option Fault
+vector_attr_fault n facts = option_or (when (not facts.has_place) (fault kind.NodeAttr n 4)) (unread n 5 facts.record_count)
+
+abbrev pub blob_fault : ℕ → Facts → Option Fault
+blob_fault n facts = option_or (when (not facts.has_place) (fault kind.NodeAttr n 4)) (unread n 6 facts.blob_length)
+
 -- What the type needs is readable: 1 `minimum`, 2 `maximum`, 3 `precision`, 4 `fileOffset`, 5 `recordCount`, 6 `length`, 7 the text.
 unfoldable pub attr_fault : ℕ → Option ElementType → Facts → Option Fault
 attr_fault n (Some element_type.Integer) facts = integer_fault n facts
 attr_fault n (Some element_type.ScaledInteger) facts = integer_fault n facts
-attr_fault n (Some element_type.Float) facts = unread n 3 facts.precision
-attr_fault n (Some element_type.CompressedVector) facts = option_or (when (not facts.has_place) (fault kind.NodeAttr n 4)) (unread n 5 facts.record_count)
-attr_fault n (Some element_type.Blob) facts = option_or (when (not facts.has_place) (fault kind.NodeAttr n 4)) (unread n 6 facts.blob_length)
+attr_fault n (Some element_type.Float) facts = float_fault n facts
+attr_fault n (Some element_type.CompressedVector) facts = vector_attr_fault n facts
+attr_fault n (Some element_type.Blob) facts = blob_fault n facts
 attr_fault n other facts = None
 
 abbrev pub order_fault : ℕ → Facts → Option Fault

@@ -2,3 +2,4 @@ mod Lists
 mod Digits
 mod Spaces
 mod Named
+mod Children

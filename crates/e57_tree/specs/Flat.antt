@@ -1,5 +1,6 @@
 -- The nodes of a tree by their numbers, from the list of all nodes in preorder.
-use Rattle.std.specs.Prelude.{◌≡◌, ℕ, zero, suc, ◌+◌, ◌-◌, ◌≤◌, List, [], ◌∷◌, ◌++◌, length, take, drop, slice_index_or}
+use Rattle.std.specs.Prelude.{◌≡◌, ℕ, zero, suc, ◌+◌, ◌-◌, ◌≤◌, List, [], ◌∷◌, ◌++◌, length, take, drop, slice_index_or, codes, Bool, not, ◌||◌}
+use Rattle.std.specs.Str.{bytes_eq}
 use Rattle.e57_elements.specs.declared.tree.RawNode.{RawNode}
 use Rattle.e57_elements.specs.Tree.{Element, element, Elements, none, more, preorder, preorder_all}
 use Rattle.e57_nodes.specs.Facts.{Facts, facts_of}
@@ -60,3 +61,7 @@ pub record AreElements (nodes : List RawNode) (n end : ℕ) : Type 0 where
   pub parts : drop n nodes ≡ preorder_all elements ++ rest
   pub ends : n + length (preorder_all elements) ≡ end
   pub within : end ≤ length nodes
+
+-- neither `prototype` nor `codecs`
+abbrev pub is_other : List ℕ → Bool
+is_other name = not (bytes_eq name (codes "prototype") || bytes_eq name (codes "codecs"))

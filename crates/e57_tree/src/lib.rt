@@ -2,4 +2,6 @@
 #![tactic(auto)]
 
 mod attributes;
+mod judge;
+mod nodes;
 mod numbers;
