@@ -66,8 +66,8 @@ float_fault n facts = unread n 3 facts.precision
 abbrev pub vector_attr_fault : ℕ → Facts → Option Fault
 vector_attr_fault n facts = option_or (when (not facts.has_place) (fault kind.NodeAttr n 4)) (unread n 5 facts.record_count)
 
-abbrev pub blob_fault : ℕ → Facts → Option Fault
-blob_fault n facts = option_or (when (not facts.has_place) (fault kind.NodeAttr n 4)) (unread n 6 facts.blob_length)
+abbrev pub blob_attr_fault : ℕ → Facts → Option Fault
+blob_attr_fault n facts = option_or (when (not facts.has_place) (fault kind.NodeAttr n 4)) (unread n 6 facts.blob_length)
 
 -- What the type needs is readable: 1 `minimum`, 2 `maximum`, 3 `precision`, 4 `fileOffset`, 5 `recordCount`, 6 `length`, 7 the text.
 unfoldable pub attr_fault : ℕ → Option ElementType → Facts → Option Fault
@@ -75,7 +75,7 @@ attr_fault n (Some element_type.Integer) facts = integer_fault n facts
 attr_fault n (Some element_type.ScaledInteger) facts = integer_fault n facts
 attr_fault n (Some element_type.Float) facts = float_fault n facts
 attr_fault n (Some element_type.CompressedVector) facts = vector_attr_fault n facts
-attr_fault n (Some element_type.Blob) facts = blob_fault n facts
+attr_fault n (Some element_type.Blob) facts = blob_attr_fault n facts
 attr_fault n other facts = None
 
 abbrev pub order_fault : ℕ → Facts → Option Fault
@@ -107,23 +107,29 @@ prototype_fault n (Some prototype) =
 abbrev pub field_count_fault : ℕ → ℕ → Option Fault
 field_count_fault n count = when (count == 0 || nat_lt max_fields count) (fault kind.FieldCount n count)
 
+abbrev pub record_limit_fault : ℕ → Facts → Option Fault
+record_limit_fault n facts = when (nat_lt max_records (unwrap_or facts.record_count 0)) (fault kind.RecordLimit n (unwrap_or facts.record_count 0))
+
+abbrev pub fields_fault : Node → Option Fault
+fields_fault x = option_or (prototype_fault x.number (child_named (codes "prototype") (children_of x))) (field_count_fault x.number (length (fields_of x)))
+
 -- what is tested of a CompressedVector alone
 unfoldable pub compressed_vector_fault : Node → Option ElementType → Option Fault
 compressed_vector_fault x (Some element_type.CompressedVector) =
-    option_or (when (nat_lt max_records (unwrap_or x.facts.record_count 0)) (fault kind.RecordLimit x.number (unwrap_or x.facts.record_count 0)))
-    (option_or (codecs_fault x.number (child_named (codes "codecs") (children_of x)))
-    (option_or (prototype_fault x.number (child_named (codes "prototype") (children_of x)))
-    (field_count_fault x.number (length (fields_of x)))))
+    option_or (record_limit_fault x.number x.facts)
+    (option_or (codecs_fault x.number (child_named (codes "codecs") (children_of x))) (fields_fault x))
 compressed_vector_fault x other = None
+
+-- what is tested by the type
+abbrev pub rules_fault : Node → Option ElementType → Option Fault
+rules_fault x t =
+    option_or (child_fault x.number t (children_of x))
+    (option_or (attr_fault x.number t x.facts) (option_or (limits_fault x.number t x.facts) (compressed_vector_fault x t)))
 
 -- the first fault of a node, whose namesake is the number of an earlier child with its name
 unfoldable pub node_fault : Option ℕ → Node → Option Fault
 node_fault namesake x =
-    option_or (type_fault x.number x.facts.element_type)
-    (option_or (name_fault x.number namesake x.facts.name)
-    (option_or (child_fault x.number x.facts.element_type (children_of x))
-    (option_or (attr_fault x.number x.facts.element_type x.facts)
-    (option_or (limits_fault x.number x.facts.element_type x.facts) (compressed_vector_fault x x.facts.element_type)))))
+    option_or (type_fault x.number x.facts.element_type) (option_or (name_fault x.number namesake x.facts.name) (rules_fault x x.facts.element_type))
 
 -- ---- the first fault of the first node at fault, in preorder
 

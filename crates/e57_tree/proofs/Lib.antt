@@ -3,3 +3,6 @@ mod Digits
 mod Spaces
 mod Named
 mod Children
+mod Noted
+mod Rows
+mod Judged

@@ -1,8 +1,11 @@
 -- The nodes of a tree by their numbers, from the list of all nodes in preorder.
-use Rattle.std.specs.Prelude.{◌≡◌, ℕ, zero, suc, ◌+◌, ◌-◌, ◌≤◌, List, [], ◌∷◌, ◌++◌, length, take, drop, slice_index_or, codes, Bool, not, ◌||◌}
+use Rattle.std.specs.Prelude.{◌≡◌, ℕ, zero, suc, ◌+◌, ◌-◌, ◌≤◌, List, [], ◌∷◌, ◌++◌, length, take, drop, slice_index_or, codes, Bool, true, false, not, ◌||◌, Option, Some, None}
 use Rattle.std.specs.Str.{bytes_eq}
 use Rattle.e57_elements.specs.declared.tree.RawNode.{RawNode}
 use Rattle.e57_elements.specs.Tree.{Element, element, Elements, none, more, preorder, preorder_all}
+use Rattle.e57_nodes.specs.declared.ElementType.{ElementType}
+use Rattle.e57_nodes.specs.declared.ElementType.TheVariants as element_type
+use Rattle.e57_nodes.specs.Places.{has_section}
 use Rattle.e57_nodes.specs.Facts.{Facts, facts_of}
 use Rattle.e57_nodes.specs.Shape.{Shape, shape, Shapes, shapes_of, Node}
 
@@ -65,3 +68,15 @@ pub record AreElements (nodes : List RawNode) (n end : ℕ) : Type 0 where
 -- neither `prototype` nor `codecs`
 abbrev pub is_other : List ℕ → Bool
 is_other name = not (bytes_eq name (codes "prototype") || bytes_eq name (codes "codecs"))
+
+-- a cloud or a blob
+abbrev pub has_section_node : Node → Bool
+has_section_node x = has_section x.facts.element_type
+
+-- a node of this type is a field
+abbrev pub is_field_type : Option ElementType → Bool
+is_field_type (Some element_type.Integer) = true
+is_field_type (Some element_type.ScaledInteger) = true
+is_field_type (Some element_type.Float) = true
+is_field_type (Some element_type.String) = true
+is_field_type other = false

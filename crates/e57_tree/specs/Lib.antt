@@ -1,3 +1,5 @@
 pub mod Numbers
 pub mod Flat
+pub mod Names
+pub mod Judged
 pub mod Laws

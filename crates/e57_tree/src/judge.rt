@@ -1,210 +1,125 @@
-//! The first fault of a node.
+//! The first fault of a tree.
 
-ghost use Rattle.std.specs.Prelude.{◌≡◌, ◌<◌, length, Some};
-ghost use Rattle.e57_nodes.specs.Shape.{children_of};
-ghost use Rattle.e57_nodes.specs.Typed.{attr_fault, blob_fault, child_fault, float_fault, integer_fault, leaf_child_fault, limits_fault, name_fault, order_fault, type_fault, vector_attr_fault, vector_child_fault};
-ghost use Rattle.e57_base.specs.Fault.{fault};
-ghost use Rattle.e57_tree.specs.Flat.{facts_in, node_in};
+ghost use Rattle.std.specs.Prelude.{◌≡◌, ◌^◌, ◌<◌, length, IfOk, OnOk};
+ghost use Rattle.e57_nodes.specs.Typed.{compressed_vector_fault, names_differ, node_fault, rules_fault, tree_fault};
+ghost use Rattle.e57_tree.specs.Flat.{node_in, shape_in};
+ghost use Rattle.e57_tree.specs.Judged.{IsJudged, namesake_in, NotesChild};
 
-use crate::attributes::{blob_length, maximum, minimum, place, precision, record_count};
-use crate::nodes::{child_named, first_child, misplaced_child};
-use crate::numbers::is_integer;
-use e57_base::{Fault, Kind};
-use e57_elements::{RawNode, RawTree};
+use crate::names::Names;
+use crate::nodes::{end_of, node, type_of};
+use crate::rules::{attr_fault, child_fault, limits_fault, name_fault, type_fault};
+use crate::vectors::vector_fault;
+use e57_base::{Fault, TextFault};
+use e57_elements::RawTree;
 use e57_nodes::ElementType;
+use std::alloc::{AllocError, Global};
 
-/// The numbers of the attributes that a fault names, and of the text.
-const MINIMUM: u64 = 1;
-const MAXIMUM: u64 = 2;
-const PRECISION: u64 = 3;
-const FILE_OFFSET: u64 = 4;
-const RECORD_COUNT: u64 = 5;
-const LENGTH: u64 = 6;
-const TEXT: u64 = 7;
-
-/// The fault of this kind with these two numbers.
-fn fault(kind: Kind, a: usize, b: u64) -> Fault
-    ensures { result ≡ fault kind a b }
+/// The first fault of a node, whose namesake is the number of an earlier child with its name.
+#[tactic(auto, unfolding(e57_nodes::specs::Typed::node_fault, e57_nodes::specs::Facts::facts_of))]
+fn node_fault(raw: &RawTree, n: usize, namesake: Option<u32>) -> Option<Fault>
+    requires { n < length raw.now }
+    ensures { result ≡ node_fault namesake (node_in raw.now n) }
 {
-    Fault {
-        kind,
-        a: a as u64,
-        b,
+    let t = type_of(raw, n);
+    if let Some(found) = type_fault(n, t) {
+        return Some(found);
     }
+    if let Some(found) = name_fault(n, namesake, node(raw, n).name.as_slice()) {
+        return Some(found);
+    }
+    rules_fault(raw, n, t)
 }
 
-/// The fault of a node's type: it is absent or unknown, or the root's isn't Structure.
-#[tactic(auto, unfolding(e57_nodes::specs::Typed::type_fault))]
-fn type_fault(n: usize, t: Option<ElementType>) -> Option<Fault>
-    ensures { result ≡ type_fault n t }
+/// The first fault of a node by its type.
+fn rules_fault(raw: &RawTree, n: usize, t: Option<ElementType>) -> Option<Fault>
+    requires { n < length raw.now }
+    ensures { result ≡ rules_fault (node_in raw.now n) t }
+{
+    if let Some(found) = child_fault(raw, n, t) {
+        return Some(found);
+    }
+    let node = node(raw, n);
+    if let Some(found) = attr_fault(n, t, node) {
+        return Some(found);
+    }
+    if let Some(found) = limits_fault(n, t, node) {
+        return Some(found);
+    }
+    compressed_vector_fault(raw, n, t)
+}
+
+/// The first fault that a CompressedVector alone can have.
+#[tactic(auto, unfolding(e57_nodes::specs::Typed::compressed_vector_fault))]
+fn compressed_vector_fault(raw: &RawTree, n: usize, t: Option<ElementType>) -> Option<Fault>
+    requires { n < length raw.now }
+    ensures { result ≡ compressed_vector_fault (node_in raw.now n) t }
 {
     match t {
-        None => Some(fault(Kind::NodeType, n, 0)),
-        Some(ElementType::Structure) => None,
-        Some(
-            ElementType::Vector
-            | ElementType::CompressedVector
+        Some(ElementType::CompressedVector) => vector_fault(raw, n),
+        None
+        | Some(
+            ElementType::Structure
+            | ElementType::Vector
             | ElementType::Integer
             | ElementType::ScaledInteger
             | ElementType::Float
             | ElementType::String
             | ElementType::Blob,
-        ) => {
-            if n == 0 {
-                return Some(fault(Kind::NodeType, n, 0));
-            }
-            None
+        ) => None,
+    }
+}
+
+/// Whether the children of a node of this type differ in their names.
+fn names_differ(t: Option<ElementType>) -> bool
+    ensures { result ≡ names_differ t }
+{
+    match t {
+        Some(ElementType::Structure | ElementType::CompressedVector) => true,
+        None
+        | Some(
+            ElementType::Vector
+            | ElementType::Integer
+            | ElementType::ScaledInteger
+            | ElementType::Float
+            | ElementType::String
+            | ElementType::Blob,
+        ) => false,
+    }
+}
+
+/// The number of an earlier child with this name, where names differ; then the name is noted.
+fn namesake<'a>(names: &mut Names<'a>, differ: bool, name: &'a [u8], child: usize) -> Result<Option<u32>, AllocError>
+    requires { child < 2 ^ 32 }
+    ensures found { IfOk result (λ found. found ≡ namesake_in names.old differ name.now) }
+    ensures noted { OnOk result (NotesChild names.old names.new differ name.now child) }
+{
+    if !differ {
+        return Ok(None);
+    }
+    names.note(name, child as u32)
+}
+
+/// The first fault of the node with this number and of those below it. Its namesake is the number of an earlier child with
+/// its name. It calls itself for the children, so at most to the depth of the tree. Memory is linear in the number of
+/// children of the nodes that it is within.
+pub fn judge(alloc: Global, raw: &RawTree, n: usize, namesake: Option<u32>) -> Result<(), TextFault>
+    requires { n < length raw.now }
+    ensures { IsJudged result (tree_fault namesake n (shape_in raw.now n)) }
+{
+    if let Some(found) = node_fault(raw, n, namesake) {
+        return Err(TextFault::Refused(found));
+    }
+    let differ = names_differ(type_of(raw, n));
+    let mut names = Names::new(alloc);
+    let end = end_of(raw, n);
+    let mut child = n + 1;
+    while child < end {
+        let name = node(raw, child).name.as_slice();
+        let earlier = self::namesake(&mut names, differ, name, child)?;
+        if let Err(error) = judge(alloc, raw, child, earlier) {
+            return Err(error);
         }
+        child = end_of(raw, child);
     }
-}
-
-/// The fault of a node's name: the root's isn't `e57Root`, or an earlier child has it.
-#[tactic(auto, unfolding(e57_nodes::specs::Typed::name_fault))]
-fn name_fault(n: usize, namesake: Option<u32>, name: &[u8]) -> Option<Fault>
-    ensures { result ≡ name_fault n namesake name.now }
-{
-    if n == 0 && name != b"e57Root".as_slice() {
-        return Some(fault(Kind::NodeName, n, 0));
-    }
-    let earlier = namesake?;
-    Some(fault(Kind::NodeName, n, u64::from(earlier)))
-}
-
-/// The fault of a node's children.
-#[tactic(auto, unfolding(e57_nodes::specs::Typed::child_fault))]
-fn child_fault(raw: &RawTree, n: usize, t: ElementType) -> Option<Fault>
-    requires { n < length raw.now }
-    ensures { result ≡ child_fault n (Some t) (children_of (node_in raw.now n)) }
-{
-    match t {
-        ElementType::CompressedVector => vector_child_fault(raw, n),
-        ElementType::Structure | ElementType::Vector => None,
-        ElementType::Integer
-        | ElementType::ScaledInteger
-        | ElementType::Float
-        | ElementType::String
-        | ElementType::Blob => leaf_child_fault(raw, n),
-    }
-}
-
-/// The fault of the children of a CompressedVector: one has another name, or there is no prototype.
-fn vector_child_fault(raw: &RawTree, n: usize) -> Option<Fault>
-    requires { n < length raw.now }
-    ensures { result ≡ vector_child_fault n (children_of (node_in raw.now n)) }
-{
-    if let Some(child) = misplaced_child(raw, n) {
-        return Some(fault(Kind::NodeChild, n, child as u64));
-    }
-    if child_named(raw, n, b"prototype".as_slice()).is_none() {
-        return Some(fault(Kind::NodeChild, n, n as u64));
-    }
-    None
-}
-
-/// The fault of a leaf or a Blob that has a child.
-fn leaf_child_fault(raw: &RawTree, n: usize) -> Option<Fault>
-    requires { n < length raw.now }
-    ensures { result ≡ leaf_child_fault n (children_of (node_in raw.now n)) }
-{
-    let child = first_child(raw, n)?;
-    Some(fault(Kind::NodeChild, n, child as u64))
-}
-
-/// The fault of a node's attributes and text: what its type needs isn't readable.
-#[tactic(auto, unfolding(e57_nodes::specs::Typed::attr_fault, e57_nodes::specs::Facts::facts_of))]
-fn attr_fault(n: usize, t: ElementType, node: &RawNode) -> Option<Fault>
-    ensures { result ≡ attr_fault n (Some t) (facts_in node.now) }
-{
-    match t {
-        ElementType::Integer | ElementType::ScaledInteger => integer_fault(n, node),
-        ElementType::Float => float_fault(n, node),
-        ElementType::CompressedVector => vector_attr_fault(n, node),
-        ElementType::Blob => blob_fault(n, node),
-        ElementType::Structure | ElementType::Vector | ElementType::String => None,
-    }
-}
-
-/// The fault of an integer's limits and text.
-#[tactic(auto, unfolding(e57_nodes::specs::Facts::facts_of))]
-fn integer_fault(n: usize, node: &RawNode) -> Option<Fault>
-    ensures { result ≡ integer_fault n (facts_in node.now) }
-{
-    if minimum(&node.attrs).is_none() {
-        return Some(fault(Kind::NodeAttr, n, MINIMUM));
-    }
-    if maximum(&node.attrs).is_none() {
-        return Some(fault(Kind::NodeAttr, n, MAXIMUM));
-    }
-    if !is_integer(node.text.as_slice()) {
-        return Some(fault(Kind::NodeAttr, n, TEXT));
-    }
-    None
-}
-
-/// The fault of a floating point number's precision.
-#[tactic(auto, unfolding(e57_nodes::specs::Facts::facts_of))]
-fn float_fault(n: usize, node: &RawNode) -> Option<Fault>
-    ensures { result ≡ float_fault n (facts_in node.now) }
-{
-    if precision(&node.attrs).is_none() {
-        return Some(fault(Kind::NodeAttr, n, PRECISION));
-    }
-    None
-}
-
-/// The fault of the attributes of a CompressedVector.
-#[tactic(auto, unfolding(e57_nodes::specs::Facts::facts_of))]
-fn vector_attr_fault(n: usize, node: &RawNode) -> Option<Fault>
-    ensures { result ≡ vector_attr_fault n (facts_in node.now) }
-{
-    if place(&node.attrs).is_none() {
-        return Some(fault(Kind::NodeAttr, n, FILE_OFFSET));
-    }
-    if record_count(&node.attrs).is_none() {
-        return Some(fault(Kind::NodeAttr, n, RECORD_COUNT));
-    }
-    None
-}
-
-/// The fault of the attributes of a Blob.
-#[tactic(auto, unfolding(e57_nodes::specs::Facts::facts_of))]
-fn blob_fault(n: usize, node: &RawNode) -> Option<Fault>
-    ensures { result ≡ blob_fault n (facts_in node.now) }
-{
-    if place(&node.attrs).is_none() {
-        return Some(fault(Kind::NodeAttr, n, FILE_OFFSET));
-    }
-    if blob_length(&node.attrs).is_none() {
-        return Some(fault(Kind::NodeAttr, n, LENGTH));
-    }
-    None
-}
-
-/// The fault of limits that are out of order.
-#[tactic(auto, unfolding(e57_nodes::specs::Typed::limits_fault, e57_nodes::specs::Facts::facts_of))]
-fn limits_fault(n: usize, t: ElementType, node: &RawNode) -> Option<Fault>
-    ensures { result ≡ limits_fault n (Some t) (facts_in node.now) }
-{
-    match t {
-        ElementType::Integer | ElementType::ScaledInteger => order_fault(n, node),
-        ElementType::Structure
-        | ElementType::Vector
-        | ElementType::CompressedVector
-        | ElementType::Float
-        | ElementType::String
-        | ElementType::Blob => None,
-    }
-}
-
-/// The fault of a minimum above the maximum.
-#[tactic(auto, unfolding(e57_nodes::specs::Facts::facts_of))]
-fn order_fault(n: usize, node: &RawNode) -> Option<Fault>
-    ensures { result ≡ order_fault n (facts_in node.now) }
-{
-    let low = minimum(&node.attrs).unwrap_or(0);
-    let high = maximum(&node.attrs).unwrap_or(0);
-    if high < low {
-        return Some(fault(Kind::Limits, n, 0));
-    }
-    None
+    Ok(())
 }

@@ -3,5 +3,8 @@
 
 mod attributes;
 mod judge;
+mod names;
 mod nodes;
 mod numbers;
+mod rules;
+mod vectors;

@@ -1,7 +1,7 @@
 //! The nodes of a tree by their numbers.
 
 ghost use Rattle.std.specs.Prelude.{◌≡◌, ◌+◌, ◌<◌, ◌≤◌, length, find, slice_get};
-ghost use Rattle.std.specs.Option.{option_map};
+ghost use Rattle.std.specs.Option.{option_map, ForSome};
 ghost use Rattle.e57_elements.specs.Limits.{max_elements};
 ghost use Rattle.e57_nodes.specs.Facts.{type_in};
 ghost use Rattle.e57_nodes.specs.Shape.{children_of};
@@ -57,7 +57,8 @@ pub fn first_child(raw: &RawTree, n: usize) -> Option<usize>
 /// The number of the first child of this name.
 pub fn child_named(raw: &RawTree, n: usize, name: &[u8]) -> Option<usize>
     requires { n < length raw.now }
-    ensures { option_map (node_in raw.now) result ≡ child_named name.now (children_of (node_in raw.now n)) }
+    ensures child { option_map (node_in raw.now) result ≡ child_named name.now (children_of (node_in raw.now n)) }
+    ensures within { ForSome result (λ child. child < length raw.now) }
 {
     let end = end_of(raw, n);
     let mut child = n + 1;
