@@ -52,23 +52,27 @@ pub record Opens (old : SourceView) (name : List ℕ) (result : Result ℕ Faile
   pub faults : old.faults ≤ new.faults
   pub cause : OnErr result (Rose old.faults new.faults)
 
+-- the bytes of a page (ASTM E2807, physical layout)
+abbrev pub page_length : ℕ
+page_length = 1024
+
 -- the file has a page n
 abbrev pub HasPage : SourceView → ℕ → Type 0
-HasPage source n = IsSomeAnd source.size (λ size. n < size / 1024)
+HasPage source n = IsSomeAnd source.size (λ size. n < size / page_length)
 
 -- page n of a file: 1024 bytes where the file has them
 abbrev pub page_of : List ℕ → ℕ → List ℕ
-page_of file n = take 1024 (drop (1024 * n) file)
+page_of file n = take page_length (drop (page_length * n) file)
 
 -- the file's length is no multiple of 1024
 abbrev pub HasRest : SourceView → Type 0
-HasRest source = IsSomeAnd source.size (λ size. size % 1024 ≢ 0)
+HasRest source = IsSomeAnd source.size (λ size. size % page_length ≢ 0)
 
 -- the bytes of a file behind its whole pages, and zeros behind them, 1024 bytes in all
 abbrev pub rest_of : List ℕ → List ℕ
 rest_of file =
-    let rest = drop (length file / 1024 * 1024) file in
-    rest ++ replicate (1024 - length rest) 0
+    let rest = drop (length file / page_length * page_length) file in
+    rest ++ replicate (page_length - length rest) 0
 
 -- The file that is open stays, and so do the stock and the counts of opens.
 pub record SameFile (old new : SourceView) : Type 0 where
@@ -95,7 +99,7 @@ pub record ReadsPage {T : Type 0} (old : SourceView) (n : ℕ) (page : List ℕ)
 -- `read_rest`; in the log it stands as the page that the rest begins
 pub record ReadsRest {T : Type 0} (old : SourceView) (rest : List ℕ) (result : Result T Failed) (new : SourceView) : Type 0 where
   pub same : SameFile old new
-  pub asked : IfSome old.size (λ size. Asks old.asked (size / 1024 ∷ []) new.asked)
+  pub asked : IfSome old.size (λ size. Asks old.asked (size / page_length ∷ []) new.asked)
   pub read : OnOk result (IfSome old.held (λ file. rest ≡ rest_of file))
   pub faults : old.faults ≤ new.faults
   pub cause : OnErr result (Rose old.faults new.faults)

@@ -1,21 +1,21 @@
--- Cases that compute: the bytes of small sections, their packets, entries and items, and widths.
-use Rattle.std.proofs.Common.{◌≡◌, ℕ, ◌+◌, Bool, true, false, List, [], ◌∷◌, ◌++◌, refl, length}
-use Rattle.std.specs.Prelude.{ℤ, pos, negsuc, replicate}
+-- Cases that compute: two small sections, byte by byte, with their packets, entries and items.
+use Rattle.std.proofs.Common.{◌≡◌, ℕ, ◌+◌, true, false, List, [], ◌∷◌, ◌++◌, refl, map}
+use Rattle.std.specs.Prelude.{pos, negsuc}
 use Rattle.e57_bits.specs.Bits.{number, bit}
 use Rattle.e57_layout.specs.declared.section.SectionHeader.{SectionHeader}
 use Rattle.e57_layout.specs.declared.packet.Entry.{Entry}
 use Rattle.e57_layout.specs.Bytes.{low_bytes, joined, packed}
-use Rattle.e57_layout.specs.Headers.{section_head, section_head_at}
+use Rattle.e57_layout.specs.Headers.{section_head, section_head_at, blob_head_of, blob_head_at}
 use Rattle.e57_layout.specs.Packets.{packet_head, whole_words, padding, data_size, stream_lengths, data_packet, sort_at, restart_at, length_at, stream_count_at, lengths_at, streams_at, streams_of}
 use Rattle.e57_layout.specs.IndexPackets.{index_head, entry_bytes, index_packet, entry_count_at, level_at, entry_at, entries_at}
 use Rattle.e57_layout.specs.Widths.{bit_length, width}
 use Rattle.e57_layout.specs.Values.{ItemKind, integers, words, strings, Value, whole, word, octets, Outcome, here, short, over_limit, out_of_range}
 use Rattle.e57_layout.specs.Strings.{first_prefix, first_string, string_at, string_length_at, string_prefix, string_bytes_of}
 use Rattle.e57_layout.specs.Items.{bits_at, item_at, stored, octets_of, field_bytes}
-use Rattle.e57_layout.specs.Packing.{first_records, later_records, Block, cut_blocks, blocks, group_streams, join_streams, fits_packet, packets_of, chunk_groups, chunk_packets}
-use Rattle.e57_layout.specs.Written.{physical, packet_bytes, flagged, chunk_spelled, chunks_spelled, chunk_entries, cut_runs, entry_runs, level_spelled, upper_entries, index_spelled, root_place, data_spelled, packets_spelled, section_spelled}
+use Rattle.e57_layout.specs.Packing.{first_records, later_records, cut_blocks, blocks, group_streams, join_streams, fits_packet, packets_of, chunk_groups, chunk_packets}
+use Rattle.e57_layout.specs.Written.{physical, packet_bytes, flagged, chunk_spelled, chunks_spelled, chunk_entries, cut_runs, entry_runs, level_spelled, upper_entries, index_spelled, root_place, data_spelled, packets_spelled, section_spelled, blob_spelled}
 
--- ---- a section of three records with four fields, at logical place 1020
+-- ---- three records of four fields in one chunk; the section stands at logical place 1020
 
 abbrev kinds : List ItemKind
 kinds = integers (pos 0) (pos 7) ∷ integers (pos 5) (pos 5) ∷ words 32 ∷ strings ∷ []
@@ -27,6 +27,15 @@ columns =
     ∷ (word 0x3f800000 ∷ word 0x40000000 ∷ word 0 ∷ [])
     ∷ (octets [] ∷ octets (97 ∷ 98 ∷ 99 ∷ []) ∷ octets (113 ∷ []) ∷ [])
     ∷ []
+
+abbrev streams : List (List ℕ)
+streams = (241 ∷ 1 ∷ []) ∷ [] ∷ (0 ∷ 0 ∷ 128 ∷ 63 ∷ 0 ∷ 0 ∷ 0 ∷ 64 ∷ 0 ∷ 0 ∷ 0 ∷ 0 ∷ []) ∷ (0 ∷ 6 ∷ 97 ∷ 98 ∷ 99 ∷ 2 ∷ 113 ∷ []) ∷ []
+
+abbrev header : SectionHeader
+header = record { id = 1; length = 100; data_place = 1056; index = 1092 }
+
+abbrev entries : List Entry
+entries = record { first = 0; place = 1056 } ∷ []
 
 abbrev header_piece : List ℕ
 header_piece = 1 ∷ 0 ∷ 0 ∷ 0 ∷ 0 ∷ 0 ∷ 0 ∷ 0 ∷ 100 ∷ 0 ∷ 0 ∷ 0 ∷ 0 ∷ 0 ∷ 0 ∷ 0 ∷ 32 ∷ 4 ∷ 0 ∷ 0 ∷ 0 ∷ 0 ∷ 0 ∷ 0 ∷ 68 ∷ 4 ∷ 0 ∷ 0 ∷ 0 ∷ 0 ∷ 0 ∷ 0 ∷ []
@@ -40,205 +49,161 @@ index_piece = 0 ∷ 0 ∷ 31 ∷ 0 ∷ 1 ∷ 0 ∷ 0 ∷ 0 ∷ 0 ∷ 0 ∷ 0 ∷
 abbrev section : List ℕ
 section = header_piece ++ (data_piece ++ index_piece)
 
-abbrev header : SectionHeader
-header = record { id = 1; length = 100; data_place = 1056; index = 1092 }
+pieces-spelled :
+    (section_head header ≡ header_piece)
+    × (data_packet true streams ≡ data_piece)
+    × (index_packet 0 entries ≡ index_piece)
+unfolding low_bytes section_head packet_head whole_words padding data_size stream_lengths data_packet index_head entry_bytes index_packet
+pieces-spelled = (refl, refl, refl)
 
-abbrev streams : List (List ℕ)
-streams = (241 ∷ 1 ∷ []) ∷ [] ∷ (0 ∷ 0 ∷ 128 ∷ 63 ∷ 0 ∷ 0 ∷ 0 ∷ 64 ∷ 0 ∷ 0 ∷ 0 ∷ 0 ∷ []) ∷ (0 ∷ 6 ∷ 97 ∷ 98 ∷ 99 ∷ 2 ∷ 113 ∷ []) ∷ []
+pieces-read :
+    (section_head_at section 0 ≡ header)
+    × (sort_at section 32 ≡ 1)
+    × (restart_at section 32 ≡ true)
+    × (length_at section 32 ≡ 36)
+    × (streams_of section 32 ≡ streams)
+    × (sort_at section 68 ≡ 0)
+    × (restart_at section 68 ≡ false)
+    × (length_at section 68 ≡ 32)
+    × (level_at section 68 ≡ 0)
+    × (entries_at section (68 + 16) (entry_count_at section 68) ≡ entries)
+unfolding bit number section_head_at sort_at restart_at length_at stream_count_at lengths_at streams_at streams_of entry_count_at level_at entry_at entries_at
+pieces-read = (refl, refl, refl, refl, refl, refl, refl, refl, refl, refl)
 
-abbrev entries : List Entry
-entries = record { first = 0; place = 1056 } ∷ []
+-- the same section with any length of chunks
+section-written :
+    (chunk_packets kinds (record { count = 3; columns = columns }) ≡ streams ∷ [])
+    × (section_spelled 1020 kinds 8 3 columns ≡ section)
+    × (section_spelled 1020 kinds 1024 3 columns ≡ section)
+    × (section_spelled 1020 kinds 1048576 3 columns ≡ section)
+unfolding low_bytes section_head packet_head whole_words padding data_size stream_lengths data_packet index_head entry_bytes index_packet joined packed bit_length width string_prefix string_bytes_of stored octets_of field_bytes first_records later_records cut_blocks blocks group_streams join_streams fits_packet packets_of chunk_groups chunk_packets physical packet_bytes flagged chunk_spelled chunks_spelled chunk_entries cut_runs entry_runs level_spelled upper_entries index_spelled root_place data_spelled packets_spelled section_spelled
+section-written = (refl, refl, refl, refl)
 
-header-spelled : section_head header ≡ header_piece
-unfolding bit number low_bytes joined packed section_head section_head_at packet_head whole_words padding data_size stream_lengths data_packet sort_at restart_at length_at stream_count_at lengths_at streams_at streams_of index_head entry_bytes index_packet entry_count_at level_at entry_at entries_at bit_length width first_prefix first_string string_at string_length_at string_prefix string_bytes_of bits_at item_at stored octets_of field_bytes first_records later_records cut_blocks blocks group_streams join_streams fits_packet packets_of chunk_groups chunk_packets physical packet_bytes flagged chunk_spelled chunks_spelled chunk_entries cut_runs entry_runs level_spelled upper_entries index_spelled root_place data_spelled packets_spelled section_spelled
-header-spelled = refl
+-- the first items of a stream, and how many
+abbrev items : ItemKind → List ℕ → List ℕ → List Outcome
+items kind stream ks = map (item_at kind stream) ks
 
-header-read : section_head_at section 0 ≡ header
-unfolding bit number low_bytes joined packed section_head section_head_at packet_head whole_words padding data_size stream_lengths data_packet sort_at restart_at length_at stream_count_at lengths_at streams_at streams_of index_head entry_bytes index_packet entry_count_at level_at entry_at entries_at bit_length width first_prefix first_string string_at string_length_at string_prefix string_bytes_of bits_at item_at stored octets_of field_bytes first_records later_records cut_blocks blocks group_streams join_streams fits_packet packets_of chunk_groups chunk_packets physical packet_bytes flagged chunk_spelled chunks_spelled chunk_entries cut_runs entry_runs level_spelled upper_entries index_spelled root_place data_spelled packets_spelled section_spelled
-header-read = refl
+items-read :
+    (items (integers (pos 0) (pos 7)) (241 ∷ 1 ∷ []) (0 ∷ 1 ∷ 2 ∷ []) ≡ here (whole (pos 1)) ∷ here (whole (pos 6)) ∷ here (whole (pos 7)) ∷ [])
+    × (items (integers (pos 5) (pos 5)) [] (0 ∷ 1 ∷ 2 ∷ []) ≡ here (whole (pos 5)) ∷ here (whole (pos 5)) ∷ here (whole (pos 5)) ∷ [])
+    × (items (words 32) (0 ∷ 0 ∷ 128 ∷ 63 ∷ 0 ∷ 0 ∷ 0 ∷ 64 ∷ 0 ∷ 0 ∷ 0 ∷ 0 ∷ []) (0 ∷ 1 ∷ 2 ∷ []) ≡ here (word 0x3f800000) ∷ here (word 0x40000000) ∷ here (word 0) ∷ [])
+    × (items strings (0 ∷ 6 ∷ 97 ∷ 98 ∷ 99 ∷ 2 ∷ 113 ∷ []) (0 ∷ 1 ∷ 2 ∷ []) ≡ here (octets []) ∷ here (octets (97 ∷ 98 ∷ 99 ∷ [])) ∷ here (octets (113 ∷ [])) ∷ [])
+unfolding bit number bit_length width first_prefix first_string string_at string_length_at bits_at item_at
+items-read = (refl, refl, refl, refl)
 
-data-spelled : data_packet true streams ≡ data_piece
-unfolding bit number low_bytes joined packed section_head section_head_at packet_head whole_words padding data_size stream_lengths data_packet sort_at restart_at length_at stream_count_at lengths_at streams_at streams_of index_head entry_bytes index_packet entry_count_at level_at entry_at entries_at bit_length width first_prefix first_string string_at string_length_at string_prefix string_bytes_of bits_at item_at stored octets_of field_bytes first_records later_records cut_blocks blocks group_streams join_streams fits_packet packets_of chunk_groups chunk_packets physical packet_bytes flagged chunk_spelled chunks_spelled chunk_entries cut_runs entry_runs level_spelled upper_entries index_spelled root_place data_spelled packets_spelled section_spelled
-data-spelled = refl
+items-short :
+    (item_at (integers (pos 0) (pos 7)) (241 ∷ 1 ∷ []) 5 ≡ short 5)
+    × (item_at (words 32) (0 ∷ 0 ∷ 128 ∷ []) 0 ≡ short 0)
+    × (item_at (words 64) [] 3 ≡ short 3)
+unfolding bit number bit_length width first_prefix first_string string_at string_length_at bits_at item_at
+items-short = (refl, refl, refl)
 
-data-streams : chunk_packets kinds (record { count = 3; columns = columns }) ≡ streams ∷ []
-unfolding bit number low_bytes joined packed section_head section_head_at packet_head whole_words padding data_size stream_lengths data_packet sort_at restart_at length_at stream_count_at lengths_at streams_at streams_of index_head entry_bytes index_packet entry_count_at level_at entry_at entries_at bit_length width first_prefix first_string string_at string_length_at string_prefix string_bytes_of bits_at item_at stored octets_of field_bytes first_records later_records cut_blocks blocks group_streams join_streams fits_packet packets_of chunk_groups chunk_packets physical packet_bytes flagged chunk_spelled chunks_spelled chunk_entries cut_runs entry_runs level_spelled upper_entries index_spelled root_place data_spelled packets_spelled section_spelled
-data-streams = refl
-
-data-read : streams_of section 32 ≡ streams
-unfolding bit number low_bytes joined packed section_head section_head_at packet_head whole_words padding data_size stream_lengths data_packet sort_at restart_at length_at stream_count_at lengths_at streams_at streams_of index_head entry_bytes index_packet entry_count_at level_at entry_at entries_at bit_length width first_prefix first_string string_at string_length_at string_prefix string_bytes_of bits_at item_at stored octets_of field_bytes first_records later_records cut_blocks blocks group_streams join_streams fits_packet packets_of chunk_groups chunk_packets physical packet_bytes flagged chunk_spelled chunks_spelled chunk_entries cut_runs entry_runs level_spelled upper_entries index_spelled root_place data_spelled packets_spelled section_spelled
-data-read = refl
-
-data-length : length_at section 32 ≡ 36
-unfolding bit number low_bytes joined packed section_head section_head_at packet_head whole_words padding data_size stream_lengths data_packet sort_at restart_at length_at stream_count_at lengths_at streams_at streams_of index_head entry_bytes index_packet entry_count_at level_at entry_at entries_at bit_length width first_prefix first_string string_at string_length_at string_prefix string_bytes_of bits_at item_at stored octets_of field_bytes first_records later_records cut_blocks blocks group_streams join_streams fits_packet packets_of chunk_groups chunk_packets physical packet_bytes flagged chunk_spelled chunks_spelled chunk_entries cut_runs entry_runs level_spelled upper_entries index_spelled root_place data_spelled packets_spelled section_spelled
-data-length = refl
-
-data-restart : restart_at section 32 ≡ true
-unfolding bit number low_bytes joined packed section_head section_head_at packet_head whole_words padding data_size stream_lengths data_packet sort_at restart_at length_at stream_count_at lengths_at streams_at streams_of index_head entry_bytes index_packet entry_count_at level_at entry_at entries_at bit_length width first_prefix first_string string_at string_length_at string_prefix string_bytes_of bits_at item_at stored octets_of field_bytes first_records later_records cut_blocks blocks group_streams join_streams fits_packet packets_of chunk_groups chunk_packets physical packet_bytes flagged chunk_spelled chunks_spelled chunk_entries cut_runs entry_runs level_spelled upper_entries index_spelled root_place data_spelled packets_spelled section_spelled
-data-restart = refl
-
-index-spelled : index_packet 0 entries ≡ index_piece
-unfolding bit number low_bytes joined packed section_head section_head_at packet_head whole_words padding data_size stream_lengths data_packet sort_at restart_at length_at stream_count_at lengths_at streams_at streams_of index_head entry_bytes index_packet entry_count_at level_at entry_at entries_at bit_length width first_prefix first_string string_at string_length_at string_prefix string_bytes_of bits_at item_at stored octets_of field_bytes first_records later_records cut_blocks blocks group_streams join_streams fits_packet packets_of chunk_groups chunk_packets physical packet_bytes flagged chunk_spelled chunks_spelled chunk_entries cut_runs entry_runs level_spelled upper_entries index_spelled root_place data_spelled packets_spelled section_spelled
-index-spelled = refl
-
-index-read : entries_at section (68 + 16) (entry_count_at section 68) ≡ entries
-unfolding bit number low_bytes joined packed section_head section_head_at packet_head whole_words padding data_size stream_lengths data_packet sort_at restart_at length_at stream_count_at lengths_at streams_at streams_of index_head entry_bytes index_packet entry_count_at level_at entry_at entries_at bit_length width first_prefix first_string string_at string_length_at string_prefix string_bytes_of bits_at item_at stored octets_of field_bytes first_records later_records cut_blocks blocks group_streams join_streams fits_packet packets_of chunk_groups chunk_packets physical packet_bytes flagged chunk_spelled chunks_spelled chunk_entries cut_runs entry_runs level_spelled upper_entries index_spelled root_place data_spelled packets_spelled section_spelled
-index-read = refl
-
-index-level : level_at section 68 ≡ 0
-unfolding bit number low_bytes joined packed section_head section_head_at packet_head whole_words padding data_size stream_lengths data_packet sort_at restart_at length_at stream_count_at lengths_at streams_at streams_of index_head entry_bytes index_packet entry_count_at level_at entry_at entries_at bit_length width first_prefix first_string string_at string_length_at string_prefix string_bytes_of bits_at item_at stored octets_of field_bytes first_records later_records cut_blocks blocks group_streams join_streams fits_packet packets_of chunk_groups chunk_packets physical packet_bytes flagged chunk_spelled chunks_spelled chunk_entries cut_runs entry_runs level_spelled upper_entries index_spelled root_place data_spelled packets_spelled section_spelled
-index-level = refl
-
-index-length : length_at section 68 ≡ 32
-unfolding bit number low_bytes joined packed section_head section_head_at packet_head whole_words padding data_size stream_lengths data_packet sort_at restart_at length_at stream_count_at lengths_at streams_at streams_of index_head entry_bytes index_packet entry_count_at level_at entry_at entries_at bit_length width first_prefix first_string string_at string_length_at string_prefix string_bytes_of bits_at item_at stored octets_of field_bytes first_records later_records cut_blocks blocks group_streams join_streams fits_packet packets_of chunk_groups chunk_packets physical packet_bytes flagged chunk_spelled chunks_spelled chunk_entries cut_runs entry_runs level_spelled upper_entries index_spelled root_place data_spelled packets_spelled section_spelled
-index-length = refl
-
-index-no_restart : restart_at section 68 ≡ false
-unfolding bit number low_bytes joined packed section_head section_head_at packet_head whole_words padding data_size stream_lengths data_packet sort_at restart_at length_at stream_count_at lengths_at streams_at streams_of index_head entry_bytes index_packet entry_count_at level_at entry_at entries_at bit_length width first_prefix first_string string_at string_length_at string_prefix string_bytes_of bits_at item_at stored octets_of field_bytes first_records later_records cut_blocks blocks group_streams join_streams fits_packet packets_of chunk_groups chunk_packets physical packet_bytes flagged chunk_spelled chunks_spelled chunk_entries cut_runs entry_runs level_spelled upper_entries index_spelled root_place data_spelled packets_spelled section_spelled
-index-no_restart = refl
-
-written-8 : section_spelled 1020 kinds 8 3 columns ≡ section
-unfolding bit number low_bytes joined packed section_head section_head_at packet_head whole_words padding data_size stream_lengths data_packet sort_at restart_at length_at stream_count_at lengths_at streams_at streams_of index_head entry_bytes index_packet entry_count_at level_at entry_at entries_at bit_length width first_prefix first_string string_at string_length_at string_prefix string_bytes_of bits_at item_at stored octets_of field_bytes first_records later_records cut_blocks blocks group_streams join_streams fits_packet packets_of chunk_groups chunk_packets physical packet_bytes flagged chunk_spelled chunks_spelled chunk_entries cut_runs entry_runs level_spelled upper_entries index_spelled root_place data_spelled packets_spelled section_spelled
-written-8 = refl
-
-written-1024 : section_spelled 1020 kinds 1024 3 columns ≡ section
-unfolding bit number low_bytes joined packed section_head section_head_at packet_head whole_words padding data_size stream_lengths data_packet sort_at restart_at length_at stream_count_at lengths_at streams_at streams_of index_head entry_bytes index_packet entry_count_at level_at entry_at entries_at bit_length width first_prefix first_string string_at string_length_at string_prefix string_bytes_of bits_at item_at stored octets_of field_bytes first_records later_records cut_blocks blocks group_streams join_streams fits_packet packets_of chunk_groups chunk_packets physical packet_bytes flagged chunk_spelled chunks_spelled chunk_entries cut_runs entry_runs level_spelled upper_entries index_spelled root_place data_spelled packets_spelled section_spelled
-written-1024 = refl
-
-written-1048576 : section_spelled 1020 kinds 1048576 3 columns ≡ section
-unfolding bit number low_bytes joined packed section_head section_head_at packet_head whole_words padding data_size stream_lengths data_packet sort_at restart_at length_at stream_count_at lengths_at streams_at streams_of index_head entry_bytes index_packet entry_count_at level_at entry_at entries_at bit_length width first_prefix first_string string_at string_length_at string_prefix string_bytes_of bits_at item_at stored octets_of field_bytes first_records later_records cut_blocks blocks group_streams join_streams fits_packet packets_of chunk_groups chunk_packets physical packet_bytes flagged chunk_spelled chunks_spelled chunk_entries cut_runs entry_runs level_spelled upper_entries index_spelled root_place data_spelled packets_spelled section_spelled
-written-1048576 = refl
-
-items-integers : (item_at (integers (pos 0) (pos 7)) (241 ∷ 1 ∷ []) 0 ∷ item_at (integers (pos 0) (pos 7)) (241 ∷ 1 ∷ []) 1 ∷ item_at (integers (pos 0) (pos 7)) (241 ∷ 1 ∷ []) 2 ∷ []) ≡ (here (whole (pos 1)) ∷ here (whole (pos 6)) ∷ here (whole (pos 7)) ∷ [])
-unfolding bit number low_bytes joined packed section_head section_head_at packet_head whole_words padding data_size stream_lengths data_packet sort_at restart_at length_at stream_count_at lengths_at streams_at streams_of index_head entry_bytes index_packet entry_count_at level_at entry_at entries_at bit_length width first_prefix first_string string_at string_length_at string_prefix string_bytes_of bits_at item_at stored octets_of field_bytes first_records later_records cut_blocks blocks group_streams join_streams fits_packet packets_of chunk_groups chunk_packets physical packet_bytes flagged chunk_spelled chunks_spelled chunk_entries cut_runs entry_runs level_spelled upper_entries index_spelled root_place data_spelled packets_spelled section_spelled
-items-integers = refl
-
-items-constant : (item_at (integers (pos 5) (pos 5)) [] 0 ∷ item_at (integers (pos 5) (pos 5)) [] 1 ∷ item_at (integers (pos 5) (pos 5)) [] 2 ∷ []) ≡ (here (whole (pos 5)) ∷ here (whole (pos 5)) ∷ here (whole (pos 5)) ∷ [])
-unfolding bit number low_bytes joined packed section_head section_head_at packet_head whole_words padding data_size stream_lengths data_packet sort_at restart_at length_at stream_count_at lengths_at streams_at streams_of index_head entry_bytes index_packet entry_count_at level_at entry_at entries_at bit_length width first_prefix first_string string_at string_length_at string_prefix string_bytes_of bits_at item_at stored octets_of field_bytes first_records later_records cut_blocks blocks group_streams join_streams fits_packet packets_of chunk_groups chunk_packets physical packet_bytes flagged chunk_spelled chunks_spelled chunk_entries cut_runs entry_runs level_spelled upper_entries index_spelled root_place data_spelled packets_spelled section_spelled
-items-constant = refl
-
-items-words : (item_at (words 32) (0 ∷ 0 ∷ 128 ∷ 63 ∷ 0 ∷ 0 ∷ 0 ∷ 64 ∷ 0 ∷ 0 ∷ 0 ∷ 0 ∷ []) 0 ∷ item_at (words 32) (0 ∷ 0 ∷ 128 ∷ 63 ∷ 0 ∷ 0 ∷ 0 ∷ 64 ∷ 0 ∷ 0 ∷ 0 ∷ 0 ∷ []) 1 ∷ item_at (words 32) (0 ∷ 0 ∷ 128 ∷ 63 ∷ 0 ∷ 0 ∷ 0 ∷ 64 ∷ 0 ∷ 0 ∷ 0 ∷ 0 ∷ []) 2 ∷ []) ≡ (here (word 0x3f800000) ∷ here (word 0x40000000) ∷ here (word 0) ∷ [])
-unfolding bit number low_bytes joined packed section_head section_head_at packet_head whole_words padding data_size stream_lengths data_packet sort_at restart_at length_at stream_count_at lengths_at streams_at streams_of index_head entry_bytes index_packet entry_count_at level_at entry_at entries_at bit_length width first_prefix first_string string_at string_length_at string_prefix string_bytes_of bits_at item_at stored octets_of field_bytes first_records later_records cut_blocks blocks group_streams join_streams fits_packet packets_of chunk_groups chunk_packets physical packet_bytes flagged chunk_spelled chunks_spelled chunk_entries cut_runs entry_runs level_spelled upper_entries index_spelled root_place data_spelled packets_spelled section_spelled
-items-words = refl
-
-items-strings : (item_at strings (0 ∷ 6 ∷ 97 ∷ 98 ∷ 99 ∷ 2 ∷ 113 ∷ []) 0 ∷ item_at strings (0 ∷ 6 ∷ 97 ∷ 98 ∷ 99 ∷ 2 ∷ 113 ∷ []) 1 ∷ item_at strings (0 ∷ 6 ∷ 97 ∷ 98 ∷ 99 ∷ 2 ∷ 113 ∷ []) 2 ∷ []) ≡ (here (octets []) ∷ here (octets (97 ∷ 98 ∷ 99 ∷ [])) ∷ here (octets (113 ∷ [])) ∷ [])
-unfolding bit number low_bytes joined packed section_head section_head_at packet_head whole_words padding data_size stream_lengths data_packet sort_at restart_at length_at stream_count_at lengths_at streams_at streams_of index_head entry_bytes index_packet entry_count_at level_at entry_at entries_at bit_length width first_prefix first_string string_at string_length_at string_prefix string_bytes_of bits_at item_at stored octets_of field_bytes first_records later_records cut_blocks blocks group_streams join_streams fits_packet packets_of chunk_groups chunk_packets physical packet_bytes flagged chunk_spelled chunks_spelled chunk_entries cut_runs entry_runs level_spelled upper_entries index_spelled root_place data_spelled packets_spelled section_spelled
-items-strings = refl
-
-items-integers-short : item_at (integers (pos 0) (pos 7)) (241 ∷ 1 ∷ []) 5 ≡ short 5
-unfolding bit number low_bytes joined packed section_head section_head_at packet_head whole_words padding data_size stream_lengths data_packet sort_at restart_at length_at stream_count_at lengths_at streams_at streams_of index_head entry_bytes index_packet entry_count_at level_at entry_at entries_at bit_length width first_prefix first_string string_at string_length_at string_prefix string_bytes_of bits_at item_at stored octets_of field_bytes first_records later_records cut_blocks blocks group_streams join_streams fits_packet packets_of chunk_groups chunk_packets physical packet_bytes flagged chunk_spelled chunks_spelled chunk_entries cut_runs entry_runs level_spelled upper_entries index_spelled root_place data_spelled packets_spelled section_spelled
-items-integers-short = refl
-
-items-words-short : item_at (words 32) (0 ∷ 0 ∷ 128 ∷ []) 0 ≡ short 0
-unfolding bit number low_bytes joined packed section_head section_head_at packet_head whole_words padding data_size stream_lengths data_packet sort_at restart_at length_at stream_count_at lengths_at streams_at streams_of index_head entry_bytes index_packet entry_count_at level_at entry_at entries_at bit_length width first_prefix first_string string_at string_length_at string_prefix string_bytes_of bits_at item_at stored octets_of field_bytes first_records later_records cut_blocks blocks group_streams join_streams fits_packet packets_of chunk_groups chunk_packets physical packet_bytes flagged chunk_spelled chunks_spelled chunk_entries cut_runs entry_runs level_spelled upper_entries index_spelled root_place data_spelled packets_spelled section_spelled
-items-words-short = refl
-
-items-constant-any : item_at (integers (negsuc 4) (negsuc 4)) [] 1000000 ≡ here (whole (negsuc 4))
-unfolding bit number low_bytes joined packed section_head section_head_at packet_head whole_words padding data_size stream_lengths data_packet sort_at restart_at length_at stream_count_at lengths_at streams_at streams_of index_head entry_bytes index_packet entry_count_at level_at entry_at entries_at bit_length width first_prefix first_string string_at string_length_at string_prefix string_bytes_of bits_at item_at stored octets_of field_bytes first_records later_records cut_blocks blocks group_streams join_streams fits_packet packets_of chunk_groups chunk_packets physical packet_bytes flagged chunk_spelled chunks_spelled chunk_entries cut_runs entry_runs level_spelled upper_entries index_spelled root_place data_spelled packets_spelled section_spelled
-items-constant-any = refl
-
-items-range : item_at (integers (pos 0) (pos 4)) (5 ∷ []) 0 ≡ out_of_range 0
-unfolding bit number low_bytes joined packed section_head section_head_at packet_head whole_words padding data_size stream_lengths data_packet sort_at restart_at length_at stream_count_at lengths_at streams_at streams_of index_head entry_bytes index_packet entry_count_at level_at entry_at entries_at bit_length width first_prefix first_string string_at string_length_at string_prefix string_bytes_of bits_at item_at stored octets_of field_bytes first_records later_records cut_blocks blocks group_streams join_streams fits_packet packets_of chunk_groups chunk_packets physical packet_bytes flagged chunk_spelled chunks_spelled chunk_entries cut_runs entry_runs level_spelled upper_entries index_spelled root_place data_spelled packets_spelled section_spelled
-items-range = refl
-
-items-negative : item_at (integers (negsuc 1) (pos 5)) (7 ∷ []) 0 ≡ here (whole (pos 5))
-unfolding bit number low_bytes joined packed section_head section_head_at packet_head whole_words padding data_size stream_lengths data_packet sort_at restart_at length_at stream_count_at lengths_at streams_at streams_of index_head entry_bytes index_packet entry_count_at level_at entry_at entries_at bit_length width first_prefix first_string string_at string_length_at string_prefix string_bytes_of bits_at item_at stored octets_of field_bytes first_records later_records cut_blocks blocks group_streams join_streams fits_packet packets_of chunk_groups chunk_packets physical packet_bytes flagged chunk_spelled chunks_spelled chunk_entries cut_runs entry_runs level_spelled upper_entries index_spelled root_place data_spelled packets_spelled section_spelled
-items-negative = refl
+items-limits :
+    (item_at (integers (negsuc 4) (negsuc 4)) [] 1000000 ≡ here (whole (negsuc 4)))
+    × (item_at (integers (pos 0) (pos 4)) (5 ∷ []) 0 ≡ out_of_range 0)
+    × (item_at (integers (negsuc 1) (pos 5)) (7 ∷ []) 0 ≡ here (whole (pos 5)))
+unfolding bit number bit_length width first_prefix first_string string_at string_length_at bits_at item_at
+items-limits = (refl, refl, refl)
 
 -- ---- strings
 
-strings-short_prefix : string_length_at 0 (6 ∷ []) 0 ≡ here (word 3)
-unfolding bit number low_bytes joined packed section_head section_head_at packet_head whole_words padding data_size stream_lengths data_packet sort_at restart_at length_at stream_count_at lengths_at streams_at streams_of index_head entry_bytes index_packet entry_count_at level_at entry_at entries_at bit_length width first_prefix first_string string_at string_length_at string_prefix string_bytes_of bits_at item_at stored octets_of field_bytes first_records later_records cut_blocks blocks group_streams join_streams fits_packet packets_of chunk_groups chunk_packets physical packet_bytes flagged chunk_spelled chunks_spelled chunk_entries cut_runs entry_runs level_spelled upper_entries index_spelled root_place data_spelled packets_spelled section_spelled
-strings-short_prefix = refl
+-- a prefix of one byte, and of eight bytes
+strings-read :
+    (item_at strings (0 ∷ []) 0 ≡ here (octets []))
+    × (item_at strings (6 ∷ 97 ∷ 98 ∷ 99 ∷ []) 0 ≡ here (octets (97 ∷ 98 ∷ 99 ∷ [])))
+    × (item_at strings (7 ∷ 0 ∷ 0 ∷ 0 ∷ 0 ∷ 0 ∷ 0 ∷ 0 ∷ 97 ∷ 98 ∷ 99 ∷ []) 0 ≡ here (octets (97 ∷ 98 ∷ 99 ∷ [])))
+unfolding bit number bit_length width first_prefix first_string string_at string_length_at bits_at item_at
+strings-read = (refl, refl, refl)
 
-strings-cut : item_at strings (0 ∷ 6 ∷ 97 ∷ 98 ∷ []) 1 ≡ short 1
-unfolding bit number low_bytes joined packed section_head section_head_at packet_head whole_words padding data_size stream_lengths data_packet sort_at restart_at length_at stream_count_at lengths_at streams_at streams_of index_head entry_bytes index_packet entry_count_at level_at entry_at entries_at bit_length width first_prefix first_string string_at string_length_at string_prefix string_bytes_of bits_at item_at stored octets_of field_bytes first_records later_records cut_blocks blocks group_streams join_streams fits_packet packets_of chunk_groups chunk_packets physical packet_bytes flagged chunk_spelled chunks_spelled chunk_entries cut_runs entry_runs level_spelled upper_entries index_spelled root_place data_spelled packets_spelled section_spelled
-strings-cut = refl
+-- a string of 2 ^ 24 bytes is within the limit, one byte more isn't; the item that has the fault is named
+strings-faults :
+    (item_at strings (0 ∷ 6 ∷ 97 ∷ 98 ∷ []) 1 ≡ short 1)
+    × (item_at strings (0 ∷ 6 ∷ 97 ∷ 98 ∷ []) 4 ≡ short 1)
+    × (item_at strings (7 ∷ 0 ∷ 0 ∷ 0 ∷ 0 ∷ 0 ∷ 0 ∷ []) 0 ≡ short 0)
+    × (item_at strings (1 ∷ 0 ∷ 0 ∷ 2 ∷ 0 ∷ 0 ∷ 0 ∷ 0 ∷ []) 0 ≡ short 0)
+    × (item_at strings (3 ∷ 0 ∷ 0 ∷ 2 ∷ 0 ∷ 0 ∷ 0 ∷ 0 ∷ []) 0 ≡ over_limit 0)
+    × (item_at strings (0 ∷ 3 ∷ 0 ∷ 0 ∷ 2 ∷ 0 ∷ 0 ∷ 0 ∷ 0 ∷ []) 7 ≡ over_limit 1)
+unfolding bit number bit_length width first_prefix first_string string_at string_length_at bits_at item_at
+strings-faults = (refl, refl, refl, refl, refl, refl)
 
-strings-after_cut : item_at strings (0 ∷ 6 ∷ 97 ∷ 98 ∷ []) 4 ≡ short 1
-unfolding bit number low_bytes joined packed section_head section_head_at packet_head whole_words padding data_size stream_lengths data_packet sort_at restart_at length_at stream_count_at lengths_at streams_at streams_of index_head entry_bytes index_packet entry_count_at level_at entry_at entries_at bit_length width first_prefix first_string string_at string_length_at string_prefix string_bytes_of bits_at item_at stored octets_of field_bytes first_records later_records cut_blocks blocks group_streams join_streams fits_packet packets_of chunk_groups chunk_packets physical packet_bytes flagged chunk_spelled chunks_spelled chunk_entries cut_runs entry_runs level_spelled upper_entries index_spelled root_place data_spelled packets_spelled section_spelled
-strings-after_cut = refl
+strings-lengths :
+    (string_length_at 0 (6 ∷ []) 0 ≡ here (word 3))
+    × (string_length_at 0 (6 ∷ []) 1 ≡ short 0)
+    × (string_length_at 0 (0 ∷ 1 ∷ 0 ∷ 0 ∷ 2 ∷ 0 ∷ 0 ∷ 0 ∷ 0 ∷ []) 1 ≡ here (word 16777216))
+unfolding bit number bit_length width first_prefix first_string string_at string_length_at bits_at item_at
+strings-lengths = (refl, refl, refl)
 
-strings-eight : item_at strings (7 ∷ 0 ∷ 0 ∷ 0 ∷ 0 ∷ 0 ∷ 0 ∷ 0 ∷ 97 ∷ 98 ∷ 99 ∷ []) 0 ≡ here (octets (97 ∷ 98 ∷ 99 ∷ []))
-unfolding bit number low_bytes joined packed section_head section_head_at packet_head whole_words padding data_size stream_lengths data_packet sort_at restart_at length_at stream_count_at lengths_at streams_at streams_of index_head entry_bytes index_packet entry_count_at level_at entry_at entries_at bit_length width first_prefix first_string string_at string_length_at string_prefix string_bytes_of bits_at item_at stored octets_of field_bytes first_records later_records cut_blocks blocks group_streams join_streams fits_packet packets_of chunk_groups chunk_packets physical packet_bytes flagged chunk_spelled chunks_spelled chunk_entries cut_runs entry_runs level_spelled upper_entries index_spelled root_place data_spelled packets_spelled section_spelled
-strings-eight = refl
-
-strings-eight-cut : item_at strings (7 ∷ 0 ∷ 0 ∷ 0 ∷ 0 ∷ 0 ∷ 0 ∷ []) 0 ≡ short 0
-unfolding bit number low_bytes joined packed section_head section_head_at packet_head whole_words padding data_size stream_lengths data_packet sort_at restart_at length_at stream_count_at lengths_at streams_at streams_of index_head entry_bytes index_packet entry_count_at level_at entry_at entries_at bit_length width first_prefix first_string string_at string_length_at string_prefix string_bytes_of bits_at item_at stored octets_of field_bytes first_records later_records cut_blocks blocks group_streams join_streams fits_packet packets_of chunk_groups chunk_packets physical packet_bytes flagged chunk_spelled chunks_spelled chunk_entries cut_runs entry_runs level_spelled upper_entries index_spelled root_place data_spelled packets_spelled section_spelled
-strings-eight-cut = refl
-
-strings-limit : item_at strings (1 ∷ 0 ∷ 0 ∷ 2 ∷ 0 ∷ 0 ∷ 0 ∷ 0 ∷ []) 0 ≡ short 0
-unfolding bit number low_bytes joined packed section_head section_head_at packet_head whole_words padding data_size stream_lengths data_packet sort_at restart_at length_at stream_count_at lengths_at streams_at streams_of index_head entry_bytes index_packet entry_count_at level_at entry_at entries_at bit_length width first_prefix first_string string_at string_length_at string_prefix string_bytes_of bits_at item_at stored octets_of field_bytes first_records later_records cut_blocks blocks group_streams join_streams fits_packet packets_of chunk_groups chunk_packets physical packet_bytes flagged chunk_spelled chunks_spelled chunk_entries cut_runs entry_runs level_spelled upper_entries index_spelled root_place data_spelled packets_spelled section_spelled
-strings-limit = refl
-
-strings-over_limit : item_at strings (3 ∷ 0 ∷ 0 ∷ 2 ∷ 0 ∷ 0 ∷ 0 ∷ 0 ∷ []) 0 ≡ over_limit 0
-unfolding bit number low_bytes joined packed section_head section_head_at packet_head whole_words padding data_size stream_lengths data_packet sort_at restart_at length_at stream_count_at lengths_at streams_at streams_of index_head entry_bytes index_packet entry_count_at level_at entry_at entries_at bit_length width first_prefix first_string string_at string_length_at string_prefix string_bytes_of bits_at item_at stored octets_of field_bytes first_records later_records cut_blocks blocks group_streams join_streams fits_packet packets_of chunk_groups chunk_packets physical packet_bytes flagged chunk_spelled chunks_spelled chunk_entries cut_runs entry_runs level_spelled upper_entries index_spelled root_place data_spelled packets_spelled section_spelled
-strings-over_limit = refl
-
-strings-prefix_127 : string_prefix 127 ≡ 254 ∷ []
-unfolding bit number low_bytes joined packed section_head section_head_at packet_head whole_words padding data_size stream_lengths data_packet sort_at restart_at length_at stream_count_at lengths_at streams_at streams_of index_head entry_bytes index_packet entry_count_at level_at entry_at entries_at bit_length width first_prefix first_string string_at string_length_at string_prefix string_bytes_of bits_at item_at stored octets_of field_bytes first_records later_records cut_blocks blocks group_streams join_streams fits_packet packets_of chunk_groups chunk_packets physical packet_bytes flagged chunk_spelled chunks_spelled chunk_entries cut_runs entry_runs level_spelled upper_entries index_spelled root_place data_spelled packets_spelled section_spelled
-strings-prefix_127 = refl
-
-strings-prefix_128 : string_prefix 128 ≡ 1 ∷ 1 ∷ 0 ∷ 0 ∷ 0 ∷ 0 ∷ 0 ∷ 0 ∷ []
-unfolding bit number low_bytes joined packed section_head section_head_at packet_head whole_words padding data_size stream_lengths data_packet sort_at restart_at length_at stream_count_at lengths_at streams_at streams_of index_head entry_bytes index_packet entry_count_at level_at entry_at entries_at bit_length width first_prefix first_string string_at string_length_at string_prefix string_bytes_of bits_at item_at stored octets_of field_bytes first_records later_records cut_blocks blocks group_streams join_streams fits_packet packets_of chunk_groups chunk_packets physical packet_bytes flagged chunk_spelled chunks_spelled chunk_entries cut_runs entry_runs level_spelled upper_entries index_spelled root_place data_spelled packets_spelled section_spelled
-strings-prefix_128 = refl
+strings-prefixes :
+    (string_prefix 0 ≡ 0 ∷ [])
+    × (string_prefix 127 ≡ 254 ∷ [])
+    × (string_prefix 128 ≡ 1 ∷ 1 ∷ 0 ∷ 0 ∷ 0 ∷ 0 ∷ 0 ∷ 0 ∷ [])
+unfolding low_bytes string_prefix
+strings-prefixes = (refl, refl, refl)
 
 -- ---- widths
 
-width-pos_0-pos_0 : width (pos 0) (pos 0) ≡ 0
+widths :
+    (width (pos 0) (pos 0) ≡ 0)
+    × (width (pos 0) (pos 1) ≡ 1)
+    × (width (pos 0) (pos 255) ≡ 8)
+    × (width (pos 0) (pos 256) ≡ 9)
+    × (width (pos 1) (pos 9223372036854775807) ≡ 63)
+    × (width (negsuc 9223372036854775807) (negsuc 0) ≡ 63)
+    × (width (negsuc 9223372036854775807) (pos 9223372036854775807) ≡ 64)
 unfolding bit_length width
-width-pos_0-pos_0 = refl
+widths = (refl, refl, refl, refl, refl, refl, refl)
 
-width-pos_0-pos_1 : width (pos 0) (pos 1) ≡ 1
-unfolding bit_length width
-width-pos_0-pos_1 = refl
+-- ---- thirteen records of one field in two chunks; the section stands at logical place 48
 
-width-pos_0-pos_255 : width (pos 0) (pos 255) ≡ 8
-unfolding bit_length width
-width-pos_0-pos_255 = refl
+abbrev second : List ℕ
+second = 1 ∷ 0 ∷ 0 ∷ 0 ∷ 0 ∷ 0 ∷ 0 ∷ 0 ∷ 104 ∷ 0 ∷ 0 ∷ 0 ∷ 0 ∷ 0 ∷ 0 ∷ 0 ∷ 80 ∷ 0 ∷ 0 ∷ 0 ∷ 0 ∷ 0 ∷ 0 ∷ 0 ∷ 104 ∷ 0 ∷ 0 ∷ 0 ∷ 0 ∷ 0 ∷ 0 ∷ 0 ∷ 1 ∷ 1 ∷ 11 ∷ 0 ∷ 1 ∷ 0 ∷ 1 ∷ 0 ∷ 21 ∷ 0 ∷ 0 ∷ 0 ∷ 1 ∷ 1 ∷ 11 ∷ 0 ∷ 1 ∷ 0 ∷ 1 ∷ 0 ∷ 240 ∷ 0 ∷ 0 ∷ 0 ∷ 0 ∷ 0 ∷ 47 ∷ 0 ∷ 2 ∷ 0 ∷ 0 ∷ 0 ∷ 0 ∷ 0 ∷ 0 ∷ 0 ∷ 0 ∷ 0 ∷ 0 ∷ 0 ∷ 0 ∷ 0 ∷ 0 ∷ 0 ∷ 0 ∷ 0 ∷ 0 ∷ 0 ∷ 80 ∷ 0 ∷ 0 ∷ 0 ∷ 0 ∷ 0 ∷ 0 ∷ 0 ∷ 5 ∷ 0 ∷ 0 ∷ 0 ∷ 0 ∷ 0 ∷ 0 ∷ 0 ∷ 92 ∷ 0 ∷ 0 ∷ 0 ∷ 0 ∷ 0 ∷ 0 ∷ 0 ∷ []
 
-width-pos_0-pos_256 : width (pos 0) (pos 256) ≡ 9
-unfolding bit_length width
-width-pos_0-pos_256 = refl
+abbrev second_header : SectionHeader
+second_header = record { id = 1; length = 104; data_place = 80; index = 104 }
 
-width-pos_1-pos_9223372036854775807 : width (pos 1) (pos 9223372036854775807) ≡ 63
-unfolding bit_length width
-width-pos_1-pos_9223372036854775807 = refl
+abbrev second_entries : List Entry
+second_entries = record { first = 0; place = 80 } ∷ record { first = 5; place = 92 } ∷ []
 
-width-negsuc_9223372036854775807-pos_9223372036854775807 : width (negsuc 9223372036854775807) (pos 9223372036854775807) ≡ 64
-unfolding bit_length width
-width-negsuc_9223372036854775807-pos_9223372036854775807 = refl
+second-spelled : section_head second_header ++ (data_packet true ((21 ∷ []) ∷ []) ++ (data_packet true ((240 ∷ []) ∷ []) ++ index_packet 0 second_entries)) ≡ second
+unfolding low_bytes section_head packet_head whole_words padding data_size stream_lengths data_packet index_head entry_bytes index_packet
+second-spelled = refl
 
-width-negsuc_9223372036854775807-negsuc_0 : width (negsuc 9223372036854775807) (negsuc 0) ≡ 63
-unfolding bit_length width
-width-negsuc_9223372036854775807-negsuc_0 = refl
+second-read :
+    (section_head_at second 0 ≡ second_header)
+    × (streams_of second 32 ≡ (21 ∷ []) ∷ [])
+    × (streams_of second 44 ≡ (240 ∷ []) ∷ [])
+    × (restart_at second 44 ≡ true)
+    × (length_at second 44 ≡ 12)
+    × (entries_at second (56 + 16) (entry_count_at second 56) ≡ second_entries)
+unfolding bit number section_head_at sort_at restart_at length_at stream_count_at lengths_at streams_at streams_of entry_count_at level_at entry_at entries_at
+second-read = (refl, refl, refl, refl, refl, refl)
 
--- ---- a section at logical place 48 with two chunks
+second-items :
+    (items (integers (pos 0) (pos 1)) (21 ∷ []) (0 ∷ 1 ∷ 2 ∷ 3 ∷ 4 ∷ []) ≡ here (whole (pos 1)) ∷ here (whole (pos 0)) ∷ here (whole (pos 1)) ∷ here (whole (pos 0)) ∷ here (whole (pos 1)) ∷ [])
+    × (items (integers (pos 0) (pos 1)) (240 ∷ []) (0 ∷ 1 ∷ 2 ∷ 3 ∷ 4 ∷ 5 ∷ 6 ∷ 7 ∷ 8 ∷ []) ≡ here (whole (pos 0)) ∷ here (whole (pos 0)) ∷ here (whole (pos 0)) ∷ here (whole (pos 0)) ∷ here (whole (pos 1)) ∷ here (whole (pos 1)) ∷ here (whole (pos 1)) ∷ here (whole (pos 1)) ∷ short 8 ∷ [])
+unfolding bit number bit_length width first_prefix first_string string_at string_length_at bits_at item_at
+second-items = (refl, refl)
 
-abbrev other : List ℕ
-other = 1 ∷ 0 ∷ 0 ∷ 0 ∷ 0 ∷ 0 ∷ 0 ∷ 0 ∷ 104 ∷ 0 ∷ 0 ∷ 0 ∷ 0 ∷ 0 ∷ 0 ∷ 0 ∷ 80 ∷ 0 ∷ 0 ∷ 0 ∷ 0 ∷ 0 ∷ 0 ∷ 0 ∷ 104 ∷ 0 ∷ 0 ∷ 0 ∷ 0 ∷ 0 ∷ 0 ∷ 0 ∷ 1 ∷ 1 ∷ 11 ∷ 0 ∷ 1 ∷ 0 ∷ 1 ∷ 0 ∷ 21 ∷ 0 ∷ 0 ∷ 0 ∷ 1 ∷ 1 ∷ 11 ∷ 0 ∷ 1 ∷ 0 ∷ 1 ∷ 0 ∷ 240 ∷ 0 ∷ 0 ∷ 0 ∷ 0 ∷ 0 ∷ 47 ∷ 0 ∷ 2 ∷ 0 ∷ 0 ∷ 0 ∷ 0 ∷ 0 ∷ 0 ∷ 0 ∷ 0 ∷ 0 ∷ 0 ∷ 0 ∷ 0 ∷ 0 ∷ 0 ∷ 0 ∷ 0 ∷ 0 ∷ 0 ∷ 0 ∷ 80 ∷ 0 ∷ 0 ∷ 0 ∷ 0 ∷ 0 ∷ 0 ∷ 0 ∷ 5 ∷ 0 ∷ 0 ∷ 0 ∷ 0 ∷ 0 ∷ 0 ∷ 0 ∷ 92 ∷ 0 ∷ 0 ∷ 0 ∷ 0 ∷ 0 ∷ 0 ∷ 0 ∷ []
+abbrev second_columns : List (List Value)
+second_columns = map (λ (z : ℕ). whole (pos z)) (1 ∷ 0 ∷ 1 ∷ 0 ∷ 1 ∷ 0 ∷ 0 ∷ 0 ∷ 0 ∷ 1 ∷ 1 ∷ 1 ∷ 1 ∷ []) ∷ []
 
-other-header : section_head_at other 0 ≡ record { id = 1; length = 104; data_place = 80; index = 104 }
-unfolding bit number low_bytes joined packed section_head section_head_at packet_head whole_words padding data_size stream_lengths data_packet sort_at restart_at length_at stream_count_at lengths_at streams_at streams_of index_head entry_bytes index_packet entry_count_at level_at entry_at entries_at bit_length width first_prefix first_string string_at string_length_at string_prefix string_bytes_of bits_at item_at stored octets_of field_bytes first_records later_records cut_blocks blocks group_streams join_streams fits_packet packets_of chunk_groups chunk_packets physical packet_bytes flagged chunk_spelled chunks_spelled chunk_entries cut_runs entry_runs level_spelled upper_entries index_spelled root_place data_spelled packets_spelled section_spelled
-other-header = refl
+abbrev in_one : List ℕ
+in_one = 1 ∷ 0 ∷ 0 ∷ 0 ∷ 0 ∷ 0 ∷ 0 ∷ 0 ∷ 76 ∷ 0 ∷ 0 ∷ 0 ∷ 0 ∷ 0 ∷ 0 ∷ 0 ∷ 32 ∷ 4 ∷ 0 ∷ 0 ∷ 0 ∷ 0 ∷ 0 ∷ 0 ∷ 44 ∷ 4 ∷ 0 ∷ 0 ∷ 0 ∷ 0 ∷ 0 ∷ 0 ∷ 1 ∷ 1 ∷ 11 ∷ 0 ∷ 1 ∷ 0 ∷ 2 ∷ 0 ∷ 21 ∷ 30 ∷ 0 ∷ 0 ∷ 0 ∷ 0 ∷ 31 ∷ 0 ∷ 1 ∷ 0 ∷ 0 ∷ 0 ∷ 0 ∷ 0 ∷ 0 ∷ 0 ∷ 0 ∷ 0 ∷ 0 ∷ 0 ∷ 0 ∷ 0 ∷ 0 ∷ 0 ∷ 0 ∷ 0 ∷ 0 ∷ 0 ∷ 32 ∷ 4 ∷ 0 ∷ 0 ∷ 0 ∷ 0 ∷ 0 ∷ 0 ∷ []
 
-other-spelled : section_head (record { id = 1; length = 104; data_place = 80; index = 104 }) ++ (data_packet true ((21 ∷ []) ∷ []) ++ (data_packet true ((240 ∷ []) ∷ []) ++ index_packet 0 (record { first = 0; place = 80 } ∷ record { first = 5; place = 92 } ∷ []))) ≡ other
-unfolding bit number low_bytes joined packed section_head section_head_at packet_head whole_words padding data_size stream_lengths data_packet sort_at restart_at length_at stream_count_at lengths_at streams_at streams_of index_head entry_bytes index_packet entry_count_at level_at entry_at entries_at bit_length width first_prefix first_string string_at string_length_at string_prefix string_bytes_of bits_at item_at stored octets_of field_bytes first_records later_records cut_blocks blocks group_streams join_streams fits_packet packets_of chunk_groups chunk_packets physical packet_bytes flagged chunk_spelled chunks_spelled chunk_entries cut_runs entry_runs level_spelled upper_entries index_spelled root_place data_spelled packets_spelled section_spelled
-other-spelled = refl
+abbrev in_two : List ℕ
+in_two = 1 ∷ 0 ∷ 0 ∷ 0 ∷ 0 ∷ 0 ∷ 0 ∷ 0 ∷ 104 ∷ 0 ∷ 0 ∷ 0 ∷ 0 ∷ 0 ∷ 0 ∷ 0 ∷ 32 ∷ 4 ∷ 0 ∷ 0 ∷ 0 ∷ 0 ∷ 0 ∷ 0 ∷ 56 ∷ 4 ∷ 0 ∷ 0 ∷ 0 ∷ 0 ∷ 0 ∷ 0 ∷ 1 ∷ 1 ∷ 11 ∷ 0 ∷ 1 ∷ 0 ∷ 1 ∷ 0 ∷ 21 ∷ 0 ∷ 0 ∷ 0 ∷ 1 ∷ 1 ∷ 11 ∷ 0 ∷ 1 ∷ 0 ∷ 1 ∷ 0 ∷ 30 ∷ 0 ∷ 0 ∷ 0 ∷ 0 ∷ 0 ∷ 47 ∷ 0 ∷ 2 ∷ 0 ∷ 0 ∷ 0 ∷ 0 ∷ 0 ∷ 0 ∷ 0 ∷ 0 ∷ 0 ∷ 0 ∷ 0 ∷ 0 ∷ 0 ∷ 0 ∷ 0 ∷ 0 ∷ 0 ∷ 0 ∷ 0 ∷ 32 ∷ 4 ∷ 0 ∷ 0 ∷ 0 ∷ 0 ∷ 0 ∷ 0 ∷ 8 ∷ 0 ∷ 0 ∷ 0 ∷ 0 ∷ 0 ∷ 0 ∷ 0 ∷ 44 ∷ 4 ∷ 0 ∷ 0 ∷ 0 ∷ 0 ∷ 0 ∷ 0 ∷ []
 
-other-entries : entries_at other (56 + 16) (entry_count_at other 56) ≡ record { first = 0; place = 80 } ∷ record { first = 5; place = 92 } ∷ []
-unfolding bit number low_bytes joined packed section_head section_head_at packet_head whole_words padding data_size stream_lengths data_packet sort_at restart_at length_at stream_count_at lengths_at streams_at streams_of index_head entry_bytes index_packet entry_count_at level_at entry_at entries_at bit_length width first_prefix first_string string_at string_length_at string_prefix string_bytes_of bits_at item_at stored octets_of field_bytes first_records later_records cut_blocks blocks group_streams join_streams fits_packet packets_of chunk_groups chunk_packets physical packet_bytes flagged chunk_spelled chunks_spelled chunk_entries cut_runs entry_runs level_spelled upper_entries index_spelled root_place data_spelled packets_spelled section_spelled
-other-entries = refl
+-- its records as we write them, from place 1020 on: in one chunk of two groups, and in chunks of 8
+second-written :
+    (section_spelled 1020 (integers (pos 0) (pos 1) ∷ []) 16 13 second_columns ≡ in_one)
+    × (section_spelled 1020 (integers (pos 0) (pos 1) ∷ []) 8 13 second_columns ≡ in_two)
+unfolding low_bytes section_head packet_head whole_words padding data_size stream_lengths data_packet index_head entry_bytes index_packet joined packed bit_length width string_prefix string_bytes_of stored octets_of field_bytes first_records later_records cut_blocks blocks group_streams join_streams fits_packet packets_of chunk_groups chunk_packets physical packet_bytes flagged chunk_spelled chunks_spelled chunk_entries cut_runs entry_runs level_spelled upper_entries index_spelled root_place data_spelled packets_spelled section_spelled
+second-written = (refl, refl)
 
-other-streams : streams_of other 32 ++ streams_of other 44 ≡ (21 ∷ []) ∷ (240 ∷ []) ∷ []
-unfolding bit number low_bytes joined packed section_head section_head_at packet_head whole_words padding data_size stream_lengths data_packet sort_at restart_at length_at stream_count_at lengths_at streams_at streams_of index_head entry_bytes index_packet entry_count_at level_at entry_at entries_at bit_length width first_prefix first_string string_at string_length_at string_prefix string_bytes_of bits_at item_at stored octets_of field_bytes first_records later_records cut_blocks blocks group_streams join_streams fits_packet packets_of chunk_groups chunk_packets physical packet_bytes flagged chunk_spelled chunks_spelled chunk_entries cut_runs entry_runs level_spelled upper_entries index_spelled root_place data_spelled packets_spelled section_spelled
-other-streams = refl
+-- ---- a blob of three bytes
 
-other-items-0 : (item_at (integers (pos 0) (pos 1)) (21 ∷ []) 0 ∷ item_at (integers (pos 0) (pos 1)) (21 ∷ []) 1 ∷ item_at (integers (pos 0) (pos 1)) (21 ∷ []) 2 ∷ item_at (integers (pos 0) (pos 1)) (21 ∷ []) 3 ∷ item_at (integers (pos 0) (pos 1)) (21 ∷ []) 4 ∷ []) ≡ (here (whole (pos 1)) ∷ here (whole (pos 0)) ∷ here (whole (pos 1)) ∷ here (whole (pos 0)) ∷ here (whole (pos 1)) ∷ [])
-unfolding bit number low_bytes joined packed section_head section_head_at packet_head whole_words padding data_size stream_lengths data_packet sort_at restart_at length_at stream_count_at lengths_at streams_at streams_of index_head entry_bytes index_packet entry_count_at level_at entry_at entries_at bit_length width first_prefix first_string string_at string_length_at string_prefix string_bytes_of bits_at item_at stored octets_of field_bytes first_records later_records cut_blocks blocks group_streams join_streams fits_packet packets_of chunk_groups chunk_packets physical packet_bytes flagged chunk_spelled chunks_spelled chunk_entries cut_runs entry_runs level_spelled upper_entries index_spelled root_place data_spelled packets_spelled section_spelled
-other-items-0 = refl
-
-other-items-1 : (item_at (integers (pos 0) (pos 1)) (240 ∷ []) 0 ∷ item_at (integers (pos 0) (pos 1)) (240 ∷ []) 1 ∷ item_at (integers (pos 0) (pos 1)) (240 ∷ []) 2 ∷ item_at (integers (pos 0) (pos 1)) (240 ∷ []) 3 ∷ item_at (integers (pos 0) (pos 1)) (240 ∷ []) 4 ∷ item_at (integers (pos 0) (pos 1)) (240 ∷ []) 5 ∷ item_at (integers (pos 0) (pos 1)) (240 ∷ []) 6 ∷ item_at (integers (pos 0) (pos 1)) (240 ∷ []) 7 ∷ item_at (integers (pos 0) (pos 1)) (240 ∷ []) 8 ∷ []) ≡ (here (whole (pos 0)) ∷ here (whole (pos 0)) ∷ here (whole (pos 0)) ∷ here (whole (pos 0)) ∷ here (whole (pos 1)) ∷ here (whole (pos 1)) ∷ here (whole (pos 1)) ∷ here (whole (pos 1)) ∷ short 8 ∷ [])
-unfolding bit number low_bytes joined packed section_head section_head_at packet_head whole_words padding data_size stream_lengths data_packet sort_at restart_at length_at stream_count_at lengths_at streams_at streams_of index_head entry_bytes index_packet entry_count_at level_at entry_at entries_at bit_length width first_prefix first_string string_at string_length_at string_prefix string_bytes_of bits_at item_at stored octets_of field_bytes first_records later_records cut_blocks blocks group_streams join_streams fits_packet packets_of chunk_groups chunk_packets physical packet_bytes flagged chunk_spelled chunks_spelled chunk_entries cut_runs entry_runs level_spelled upper_entries index_spelled root_place data_spelled packets_spelled section_spelled
-other-items-1 = refl
-
+blob-spelled :
+    (blob_spelled (7 ∷ 8 ∷ 9 ∷ []) ≡ 0 ∷ 0 ∷ 0 ∷ 0 ∷ 0 ∷ 0 ∷ 0 ∷ 0 ∷ 20 ∷ 0 ∷ 0 ∷ 0 ∷ 0 ∷ 0 ∷ 0 ∷ 0 ∷ 7 ∷ 8 ∷ 9 ∷ [])
+    × (blob_head_at (blob_spelled (7 ∷ 8 ∷ 9 ∷ [])) 0 ≡ record { id = 0; length = 20 })
+unfolding low_bytes blob_head_of whole_words blob_spelled bit number blob_head_at
+blob-spelled = (refl, refl)

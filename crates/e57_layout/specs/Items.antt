@@ -46,13 +46,14 @@ AreColumns kinds n columns = ⊥
 
 -- ---- how items are written
 
--- the number that is stored of an item of fixed width: how far an integer is above the lowest value, or the word
+-- the number that is stored of an item of fixed width: how far an integer is above the lowest value, or the word. A
+-- string has none; that case doesn't come
 unfoldable pub stored : ℤ → Value → ℕ
 stored low (whole z) = int_gap low z
 stored low (word n) = n
 stored low (octets t) = 0
 
--- the bytes of a string
+-- the bytes of a string; the other cases don't come
 unfoldable pub octets_of : Value → List ℕ
 octets_of (whole z) = []
 octets_of (word n) = []

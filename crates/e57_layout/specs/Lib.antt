@@ -8,5 +8,6 @@ pub mod Values
 pub mod Strings
 pub mod Items
 pub mod Packing
+pub mod Steps
 pub mod Written
 pub mod Laws

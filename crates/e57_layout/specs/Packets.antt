@@ -1,5 +1,5 @@
 -- The head that all packets have, and data packets (ASTM E2807, packets): how they are spelled, and what is read of the
--- one at place q. Flags other than bit 0, and padding, are spelled as zeros, and not read.
+-- one at place q. Flags other than bit 0, and padding, are spelled as zeros, and mean nothing.
 use Rattle.std.specs.Prelude.{ℕ, zero, suc, ◌+◌, ◌-◌, ◌*◌, ◌/◌, ◌==◌, ◌&&◌, Bool, true, false, List, [], ◌∷◌, ◌++◌, length, map, take, drop, replicate}
 use Rattle.std.specs.List.{concat, flat_map, sum}
 use Rattle.e57_bits.specs.Bits.{number}

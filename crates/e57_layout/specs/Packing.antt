@@ -16,6 +16,12 @@ first_records n columns = map (λ (column : List Value). take n column) columns
 unfoldable pub later_records : ℕ → List (List Value) → List (List Value)
 later_records n columns = map (λ (column : List Value). drop n column) columns
 
+-- records after records, field by field; both have the same fields
+unfoldable pub join_columns : List (List Value) → List (List Value) → List (List Value)
+join_columns [] later = later
+join_columns (column ∷ columns) [] = column ∷ columns
+join_columns (column ∷ columns) (more ∷ later) = (column ++ more) ∷ join_columns columns later
+
 -- some records: how many, and a column of items for each field
 pub record Block : Type 0 where
   pub count : ℕ
@@ -40,13 +46,13 @@ blocks n count columns = cut_blocks count n count columns
 abbrev pub group_length : ℕ
 group_length = 8
 
--- each field's bytes of some records
+-- each field's bytes of some records, which have a column for each field
 unfoldable pub group_streams : List ItemKind → List (List Value) → List (List ℕ)
 group_streams [] columns = []
 group_streams (kind ∷ kinds) [] = [] ∷ group_streams kinds []
 group_streams (kind ∷ kinds) (column ∷ columns) = field_bytes kind column ∷ group_streams kinds columns
 
--- streams after streams, field by field
+-- streams after streams, field by field; both have the same fields
 unfoldable pub join_streams : List (List ℕ) → List (List ℕ) → List (List ℕ)
 join_streams [] later = later
 join_streams (s ∷ streams) [] = s ∷ streams

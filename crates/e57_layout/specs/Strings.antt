@@ -1,5 +1,5 @@
 -- The strings of a stream, one after another, each a prefix that has its length, and its bytes (ASTM E2807, strings).
-use Rattle.std.specs.Prelude.{ℕ, zero, suc, ◌+◌, ◌*◌, ◌/◌, ◌%◌, ◌^◌, ◌==◌, nat_lt, nat_le, if◌then◌else◌, List, [], ◌∷◌, ◌++◌, length, take, drop}
+use Rattle.std.specs.Prelude.{ℕ, zero, suc, ◌+◌, ◌*◌, ◌/◌, ◌%◌, ◌^◌, ◌==◌, nat_lt, nat_le, if◌then◌else◌, List, [], ◌∷◌, ◌++◌, length, take, drop, Option, Some, None}
 use Rattle.e57_bits.specs.Bits.{number}
 use Rattle.e57_layout.specs.Bytes.{low_bytes}
 use Rattle.e57_layout.specs.Values.{Outcome, here, short, over_limit, word, octets}
@@ -16,7 +16,7 @@ pub data PrefixRead : Type 0 where
   prefix_too_long : PrefixRead
   prefix_cut_off : PrefixRead
 
--- a length of an eight-byte prefix, which may be above the limit
+-- a length that a prefix states, which may be above the limit
 abbrev pub limited : ℕ → List ℕ → PrefixRead
 limited n rest = if nat_lt string_limit n then prefix_too_long else prefix_found n rest
 
@@ -24,7 +24,7 @@ limited n rest = if nat_lt string_limit n then prefix_too_long else prefix_found
 unfoldable pub first_prefix : List ℕ → PrefixRead
 first_prefix [] = prefix_cut_off
 first_prefix (b ∷ bs) =
-    if b % 2 == 0 then prefix_found (b / 2) bs
+    if b % 2 == 0 then limited (b / 2) bs
     else (if nat_lt (length bs) 7 then prefix_cut_off else limited (number (b ∷ bs) 0 64 / 2) (drop 7 bs))
 
 -- a string and what follows it; or its length is above the limit; or the stream ends within it
@@ -63,6 +63,17 @@ on_prefix k prefix_cut_off = short k
 unfoldable pub string_length_at : ℕ → List ℕ → ℕ → Outcome
 string_length_at done stream zero = on_prefix done (first_prefix stream)
 string_length_at done stream (suc k) = on_string done (λ t rest. string_length_at (done + 1) rest k) (first_string stream)
+
+-- what comes of what follows a string
+abbrev pub on_rest : (List ℕ → Option (List ℕ)) → StringRead → Option (List ℕ)
+on_rest next (string_found t rest) = next rest
+on_rest next string_too_long = None
+on_rest next string_cut_off = None
+
+-- what follows the first k strings, if they are there
+unfoldable pub after_strings : ℕ → List ℕ → Option (List ℕ)
+after_strings zero stream = Some stream
+after_strings (suc k) stream = on_rest (after_strings k) (first_string stream)
 
 -- ---- how a string is written
 

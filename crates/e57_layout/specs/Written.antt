@@ -51,12 +51,12 @@ chunk_entries kinds q first (chunk ∷ chunks) =
 
 -- ---- the index
 
--- the first record of some entries
+-- the first record of some entries, of which there is one at least
 abbrev pub first_record : List Entry → ℕ
 first_record [] = 0
 first_record (e ∷ es) = e.first
 
--- how many entries an index packet has at most (a limit of the standard)
+-- how many entries an index packet has at most
 abbrev pub entries_limit : ℕ
 entries_limit = 2048
 

@@ -134,7 +134,7 @@ pub scanned_more : (old mid new : SourceView) (n : ℕ) (page : List ℕ) → Is
 scanned_more old mid new n page scanned fetched =
     let asked = asks_for_on (range_with_len 0 n) (n ∷ []) scanned.source fetched.source in
     let held : new.held ≡ old.held = asked.same.held in
-    let right : IfSome new.held (λ file. page_fault file n ≡ None) = told_right new.held n page fetched.kept.bytes fetched.kept.right in
+    let right : IfSome new.held (λ file. page_fault file n ≡ None) = told_right new.held n page fetched.right_page.bytes fetched.right_page.right in
     record {
       source = subst (λ (ns : List ℕ). AsksFor old ns new) (rw zero-add at (numbers_more 0 n)) asked;
       right = told_more old.held n scanned.right (subst (λ (h : Option (List ℕ)). IfSome h (λ file. page_fault file n ≡ None)) held right);

@@ -1,2 +1,4 @@
 pub mod Fetching
 pub mod Pieces
+pub mod Keeping
+pub mod OpeningFile

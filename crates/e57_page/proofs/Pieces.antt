@@ -1,18 +1,20 @@
 -- A range is read page by page.
-use Rattle.std.proofs.Common.{◌≡◌, ◌≢◌, ℕ, ◌+◌, ◌-◌, ◌*◌, ◌/◌, ◌<◌, ◌≤◌, min, List, [], ◌∷◌, ◌++◌, length, take, drop, Option, Some, None, IfSome, inl, inr, refl, sym, ap, ◌∙◌, subst, arith, length-take, length-drop}
+use Rattle.std.proofs.Common.{◌≡◌, ℕ, ◌+◌, ◌-◌, ◌*◌, ◌/◌, ◌<◌, ◌≤◌, min, List, [], ◌∷◌, ◌++◌, length, take, drop, Option, Some, None, IfSome, Bool, true, false, if◌then◌else◌, inl, inr, refl, sym, ap, ◌∙◌, subst, arith, length-take, length-drop}
 use Rattle.std.proofs.lemmas.List.{take-take, take_all, drop_all, take_at, drop_at, drop-drop, drop-take, take-append-drop, append-nil}
 use Rattle.std.proofs.lemmas.Bool.{cases_lt}
 use Rattle.std.proofs.lemmas.Bool.Decides.{nat_tests}
 use Rattle.std.proofs.lemmas.Slice.{drop-put_mid}
 use Rattle.e57_base.specs.Source.{SourceView, HoldsSize, page_of}
 use Rattle.e57_base.specs.declared.fault.ReadFault.{ReadFault}
-use Rattle.e57_page.specs.Place.{RisesWithin, span_end, unless_kept}
-use Rattle.e57_page.specs.PlaceLaws.{rises_after}
+use Rattle.e57_page.specs.Place.{span_end}
+use Rattle.e57_page.specs.PlaceLaws.{rises_on}
+use Rattle.e57_page.specs.Kept.{is_kept, KeepsTo}
+use Rattle.e57_page.specs.KeptLaws.{keeps_none, keeps_on, unkept_on}
 use Rattle.e57_page.specs.File.{logical, page_fault, pages_fault}
 use Rattle.e57_page.specs.FileLaws.{pages_fault-zero, pages_fault-more, logical-piece}
-use Rattle.e57_page.specs.Pages.{AsksFor, ReadsRange, IsCutAt}
+use Rattle.e57_page.specs.Pages.{AsksFor, AsksUnkept, ReadsRange, IsCutAt}
 use Rattle.e57_page.specs.PagesLaws.{asks_for_none, asks_for_on, is_stopped_before}
-use Rattle.e57_page.specs.Fetch.{IsKept, IsNotFetched, AsksUnlessKept, before_page, page_piece, with_part, SameBetween, ReadsPiece, HasRead}
+use Rattle.e57_page.specs.Fetch.{IsPage, IsNotFetched, unless_kept, before_page, page_piece, with_part, SameBetween, ReadsPiece, HasRead}
 use Rattle.e57_page.proofs.Fetching.{told_right, told_later}
 
 -- the front, the part and the rest of a list with a part
@@ -103,14 +105,15 @@ pub told_has : (held : Option (List ℕ)) (known : Option ℕ) (size n : ℕ) �
 told_has None known size n law is below = tt
 told_has (Some file) known size n law is below = let same : length file ≡ size = cc in rw same below
 
--- Page n was kept, and a piece of it copied.
-pub reads_piece : (old new : SourceView) (kept_at at n size : ℕ) (page before after : List ℕ) → HoldsSize old → old.size ≡ Some size → n < size / 1024 → at < 1020 * (n + 1) → 1020 * n < at + length before → length page ≡ 1024 → AsksUnlessKept old kept_at n new → IsKept new n page → after ≡ with_part (before_page at n) (page_piece at n (length before) page) before → ReadsPiece old kept_at at n before after new
-reads_piece old new kept_at at n size page before after law is below reaches begins long asked kept copied =
-    let same : new.held ≡ old.held = asked.2.same.held in
-    let bytes : IfSome old.held (λ file. page ≡ page_of file n) = told_later new.held old.held n page (sym same) kept.bytes in
+-- A piece of page n was copied.
+pub reads_piece : (old new : SourceView) (kept now : List ℕ) (at n high size : ℕ) (page before after : List ℕ) → KeepsTo kept n (n + 1) high now → HoldsSize old → old.size ≡ Some size → n < size / 1024 → at < 1020 * (n + 1) → 1020 * n < at + length before → length page ≡ 1024 → AsksFor old (unless_kept kept n) new → IsPage new n page → after ≡ with_part (before_page at n) (page_piece at n (length before) page) before → ReadsPiece old kept at n high before after new now
+reads_piece old new kept now at n high size page before after keeps law is below reaches begins long asked is_page copied =
+    let same : new.held ≡ old.held = asked.same.held in
+    let bytes : IfSome old.held (λ file. page ≡ page_of file n) = told_later new.held old.held n page (sym same) is_page.bytes in
     record {
       source = asked;
-      right = told_right old.held n page bytes kept.right;
+      keeps = keeps;
+      right = told_right old.held n page bytes is_page.right;
       front = copied-front at n page before after long reaches begins copied;
       piece = copied-piece at n page before after long reaches begins copied old.held (told_has old.held old.size size n law is below) bytes;
       rest = copied-rest at n page before after long reaches begins copied;
@@ -125,10 +128,11 @@ told_nothing : (held : Option (List ℕ)) (at size : ℕ) (before : List ℕ) �
 told_nothing None at size before = tt
 told_nothing (Some file) at size before = let none : before_page at (at / 1020) ≡ 0 = omega arith in rw none
 
-pub has_read_none : (source : SourceView) (kept at : ℕ) (before : List ℕ) → HasRead source kept at (at / 1020) before before source
-has_read_none source kept at before =
+pub has_read_none : (source : SourceView) (kept : List ℕ) (at high : ℕ) (before : List ℕ) → HasRead source kept at (at / 1020) high before before source kept
+has_read_none source kept at high before =
     record {
-      source = ([], tt, asks_for_none source);
+      source = ([], tt, tt, asks_for_none source);
+      keeps = keeps_none kept (at / 1020) high;
       right = told_start source.held at before;
       bytes = told_nothing source.held at (length before) before;
       rest = refl;
@@ -147,20 +151,37 @@ told_bytes_more None at n size between after front bytes piece = tt
 told_bytes_more (Some file) at n size between after front bytes piece =
     take_on (before_page at n) (before_page at (n + 1)) after (take size (drop at (logical file))) (omega arith) (front ∙ bytes) piece
 
-pub has_read_more : (old mid new : SourceView) (kept now at n : ℕ) (before between after : List ℕ) → at / 1020 ≤ n → (n ≡ at / 1020 → now ≡ kept) → length between ≡ length before → HasRead old kept at n before between mid → ReadsPiece mid now at n between after new → HasRead old kept at (n + 1) before after new
-has_read_more old mid new kept now at n before between after begun still long read piece =
-    let same : mid.held ≡ old.held = read.source.2.same.held in
+-- page n is asked for, unless it is kept
+asks_more : (kept now : List ℕ) (low n high : ℕ) (old mid new : SourceView) → low ≤ n → n < high → AsksUnkept kept low n old mid → KeepsTo kept low n high now → AsksFor mid (unless_kept now n) new → AsksUnkept kept low (n + 1) old new
+asks_more kept now low n high old mid new begun below (pages, rises, unkept, asks) keeps more = by_cases (is_kept now n) refl where
+  by_cases : (b : Bool) → is_kept now n ≡ b → AsksUnkept kept low (n + 1) old new
+  by_cases true is =
+      let none : AsksFor mid [] new = subst (λ (b : Bool). AsksFor mid (if b then [] else n ∷ []) new) is more in (
+        pages ++ [],
+        rises_on low n (n + 1) pages [] begun (omega arith) rises tt,
+        unkept_on kept pages [] unkept tt,
+        asks_for_on pages [] asks none,
+      )
+  by_cases false is =
+      let this : AsksFor mid (n ∷ []) new = subst (λ (b : Bool). AsksFor mid (if b then [] else n ∷ []) new) is more in
+      let unkept_before : is_kept kept n ≡ false = sym (keeps.later n (omega arith) below) ∙ is in (
+        pages ++ n ∷ [],
+        rises_on low n (n + 1) pages (n ∷ []) begun (omega arith) rises (omega arith, omega arith, tt),
+        unkept_on kept pages (n ∷ []) unkept (unkept_before, tt),
+        asks_for_on pages (n ∷ []) asks this,
+      )
+
+pub has_read_more : (old mid new : SourceView) (kept now next : List ℕ) (at n high : ℕ) (before between after : List ℕ) → at / 1020 ≤ n → n < high → length between ≡ length before → HasRead old kept at n high before between mid now → ReadsPiece mid now at n high between after new next → HasRead old kept at (n + 1) high before after new next
+has_read_more old mid new kept now next at n high before between after begun below long read piece =
+    let same : mid.held ≡ old.held = read.source.3.same.held in
     let right : IfSome old.held (λ file. page_fault file n ≡ None) = subst (λ (held : Option (List ℕ)). IfSome held (λ file. page_fault file n ≡ None)) same piece.right in
     let bytes : IfSome old.held (λ file. SameBetween (before_page at n) (before_page at (n + 1)) after (take (length before) (drop at (logical file)))) =
     subst (λ (size : ℕ). IfSome old.held (λ file. SameBetween (before_page at n) (before_page at (n + 1)) after (take size (drop at (logical file))))) long
     (subst (λ (held : Option (List ℕ)). IfSome held (λ file. SameBetween (before_page at n) (before_page at (n + 1)) after (take (length between) (drop at (logical file))))) same piece.piece)
     in
     record {
-      source = (
-        read.source.0 ++ piece.source.0,
-        rises_after kept now (at / 1020) n read.source.0 piece.source.0 begun still read.source.1 piece.source.1,
-        asks_for_on read.source.0 piece.source.0 read.source.2 piece.source.2,
-      );
+      source = asks_more kept now (at / 1020) n high old mid new begun below read.source read.keeps piece.source;
+      keeps = keeps_on kept now next (at / 1020) n (n + 1) high begun (omega arith) read.keeps piece.keeps;
       right = told_right_more old.held (at / 1020) n begun read.right right;
       bytes = told_bytes_more old.held at n (length before) between after piece.front read.bytes bytes;
       rest = piece.rest ∙ drop_on (before_page at n) (before_page at (n + 1)) between before (omega arith) read.rest;
@@ -182,36 +203,37 @@ told_all None at high size after long reaches bytes = tt
 told_all (Some file) at high size after long reaches bytes =
     sym (take_all high after (omega arith)) ∙ (bytes ∙ take_all high (take size (drop at (logical file))) (rw length-take (omega arith)))
 
-pub has_read_all : (old new : SourceView) (kept at n : ℕ) (before after : List ℕ) → length after ≡ length before → n ≡ span_end at (length before) → HasRead old kept at n before after new → ReadsRange old kept at (length before) after new
-has_read_all old new kept at n before after long is read =
+pub has_read_all : (old new : SourceView) (kept now : List ℕ) (at n : ℕ) (before after : List ℕ) → length after ≡ length before → n ≡ span_end at (length before) → HasRead old kept at n n before after new now → ReadsRange old kept at (length before) after new now
+has_read_all old new kept now at n before after long is read =
     record {
-      source = subst (λ (high : ℕ). (pages : List ℕ) × RisesWithin (unless_kept kept (at / 1020)) high pages × AsksFor old pages new) is read.source;
+      source = subst (λ (high : ℕ). AsksUnkept kept (at / 1020) high old new) is read.source;
+      keeps = subst (λ (high : ℕ). KeepsTo kept (at / 1020) high high now) is read.keeps;
       right = subst (λ (high : ℕ). IfSome old.held (λ file. pages_fault file (at / 1020) (high - at / 1020) ≡ None)) is read.right;
       bytes = told_all old.held at (before_page at n) (length before) after long (subst (λ (high : ℕ). length before ≤ before_page at high) (sym is) (end_reaches at (length before))) read.bytes;
     }
-
--- page n, which isn't kept, is asked for
-asked_again : (kept n : ℕ) → kept ≢ n → RisesWithin (unless_kept kept n) (n + 1) (n ∷ [])
-asked_again kept n other = (grind (arith, nat_tests), omega arith, tt)
 
 -- a page stopped the read
 told_cut : (held : Option (List ℕ)) (at done size : ℕ) (after : List ℕ) → done ≤ size → IfSome held (λ file. take done after ≡ take done (take size (drop at (logical file)))) → IfSome held (λ file. take done after ≡ take done (drop at (logical file)))
 told_cut None at done size after fits bytes = tt
 told_cut (Some file) at done size after fits bytes = bytes ∙ take-take done size (drop at (logical file)) fits
 
-pub is_cut : (old mid new : SourceView) (kept now at n : ℕ) (before after : List ℕ) (found : ReadFault) → at / 1020 ≤ n → (n ≡ at / 1020 → now ≡ kept) → now ≢ n → before_page at n < length before → HasRead old kept at n before after mid → IsNotFetched mid n found new → IsCutAt old kept at before (record { done = before_page at n; fault = found }) after n new
-is_cut old mid new kept now at n before after found begun still other begins read failed =
+pub is_cut : (old mid new : SourceView) (kept now : List ℕ) (at n high : ℕ) (before after : List ℕ) (found : ReadFault) → at / 1020 ≤ n → n < high → high ≡ span_end at (length before) → is_kept now n ≡ false → before_page at n < length before → HasRead old kept at n high before after mid now → IsNotFetched mid n found new → IsCutAt old kept at before (record { done = before_page at n; fault = found }) after n new now
+is_cut old mid new kept now at n high before after found begun below is other begins read failed =
+    let pages = read.source.0 in
+    let unkept_before : is_kept kept n ≡ false = sym (read.keeps.later n (omega arith) below) ∙ other in
     record {
       source = (
-        read.source.0,
-        rises_after kept now (at / 1020) n read.source.0 (n ∷ []) begun still read.source.1 (asked_again now n other),
-        asks_for_on read.source.0 (n ∷ []) read.source.2 failed.source,
+        pages,
+        rises_on (at / 1020) n (n + 1) pages (n ∷ []) begun (omega arith) read.source.1 (omega arith, omega arith, tt),
+        unkept_on kept pages (n ∷ []) read.source.2 (unkept_before, tt),
+        asks_for_on pages (n ∷ []) read.source.3 failed.source,
       );
+      keeps = subst (λ (end : ℕ). KeepsTo kept (at / 1020) n end now) is read.keeps;
       short = omega arith;
       done = refl;
       place = omega arith;
       right = read.right;
       bytes = told_cut old.held at (before_page at n) (length before) after (omega arith) read.bytes;
       rest = read.rest;
-      cause = is_stopped_before old mid new read.source.0 n found read.source.2 failed.cause;
+      cause = is_stopped_before old mid new pages n found read.source.3 failed.cause;
     }

@@ -2,6 +2,7 @@
 use Rattle.std.specs.Prelude.{ℕ, ◌*◌, ◌==◌, ◌&&◌, not, if◌then◌else◌, List, take, Option, Some, None, codes}
 use Rattle.std.specs.Str.{bytes_eq}
 use Rattle.e57_bits.specs.Bits.{number}
+use Rattle.e57_base.specs.Source.{page_length}
 use Rattle.e57_base.specs.declared.fault.Fault.{Fault}
 use Rattle.e57_base.specs.Fault.{fault}
 use Rattle.e57_base.specs.declared.kind.Kind.TheVariants.{Signature, Version, FileLength, PageSize}
@@ -39,5 +40,5 @@ header_fault file length =
     if not (bytes_eq (signature file) (codes "ASTM-E57")) then Some (fault Signature 0 0)
     else (if not (major_version file == 1 && minor_version file == 0) then Some (fault Version (major_version file) (minor_version file))
     else (if not (physical_length file == length) then Some (fault FileLength length (physical_length file))
-    else (if not (page_size file == 1024) then Some (fault PageSize (page_size file) 0)
+    else (if not (page_size file == page_length) then Some (fault PageSize (page_size file) 0)
     else None)))

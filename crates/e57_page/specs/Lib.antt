@@ -1,5 +1,7 @@
 pub mod Place
 pub mod PlaceLaws
+pub mod Kept
+pub mod KeptLaws
 pub mod Header
 pub mod File
 pub mod FileLaws
@@ -7,3 +9,4 @@ pub mod XmlSection
 pub mod Pages
 pub mod Fetch
 pub mod PagesLaws
+pub mod Opening

@@ -1,13 +1,14 @@
-//! Pages of a source: asked for, tested, kept.
+//! Pages of a source: asked for and tested.
 
-ghost use Rattle.std.specs.Prelude.{◌≡◌, ◌≢◌, ◌/◌, ℕ, Some, None, length, MatchResult};
+ghost use Rattle.std.specs.Prelude.{◌≡◌, ◌/◌, ℕ, Some, None, MatchResult};
 ghost use Rattle.e57_base.specs.Fault.{fault};
-ghost use Rattle.e57_base.specs.Source.{HasPage};
+ghost use Rattle.e57_base.specs.Source.{HasPage, page_length};
 ghost use Rattle.e57_page.specs.File.{length_fault};
 ghost use Rattle.e57_page.specs.Pages.{IsOpened, IsNotOpened, IsScanned, IsScannedTo};
-ghost use Rattle.e57_page.specs.Fetch.{IsKept, IsFetched, IsNotFetched, AsksUnlessKept};
+ghost use Rattle.e57_page.specs.Fetch.{IsPage, IsFetched, IsNotFetched};
 
 use crate::header::Header;
+use crate::place::PAGE;
 use e57_base::{Fault, Kind, ReadFault, Source};
 use e57_crc::word_right;
 
@@ -44,7 +45,7 @@ pub fn fetch_first<S: Source>(
     requires size { (S.view source.old).size ≡ Some length }
     requires whole { length_fault length ≡ None }
     ensures { MatchResult result
-        (λ header. IsOpened (S.view source.old) length length header (S.view source.new) × IsKept (S.view source.new) 0 page.new)
+        (λ header. IsOpened (S.view source.old) length length header (S.view source.new) × IsPage (S.view source.new) 0 page.new)
         (λ fault. IsNotOpened (S.view source.old) length fault (S.view source.new)) }
 {
     if let Err(_) = source.read_page(0, page) {
@@ -60,42 +61,15 @@ pub fn fetch_first<S: Source>(
     Ok(header)
 }
 
-/// Keeps page `n`, and asks for it where it isn't kept already. After a refusal the page that was kept still is.
-pub fn keep<S: Source>(
-    source: &mut S,
-    n: u64,
-    number: &mut u64,
-    page: &mut [u8; 1024],
-) -> Result<(), ReadFault>
-    requires has { HasPage (S.view source.old) n }
-    requires kept { IsKept (S.view source.old) number.old page.old }
-    ensures long { length page.new ≡ 1024 }
-    ensures kept { IsKept (S.view source.new) number.new page.new }
-    ensures pages { MatchResult result
-        (λ _. (number.new ≡ n) × AsksUnlessKept (S.view source.old) number.old n (S.view source.new))
-        (λ fault. (number.old ≢ n) × IsNotFetched (S.view source.old) n fault (S.view source.new)) }
-{
-    if *number == n {
-        return Ok(());
-    }
-    let mut fresh = [0; 1024];
-    if let Err(fault) = fetch(source, n, &mut fresh) {
-        return Err(fault);
-    }
-    *number = n;
-    *page = fresh;
-    Ok(())
-}
-
 /// Asks for each page of a file of `length` bytes in order, and tests its word. Answers the number of pages.
 pub fn scan<S: Source>(source: &mut S, length: u64) -> Result<u64, ReadFault>
     requires { (S.view source.old).size ≡ Some length }
-    ensures count { MatchResult result (λ count. count ≡ length / 1024) (λ _. Unit {0}) }
+    ensures count { MatchResult result (λ count. count ≡ length / page_length) (λ _. Unit {0}) }
     ensures pages { MatchResult result
         (λ count. IsScanned (S.view source.old) count (S.view source.new))
-        (λ fault. (n : ℕ) × IsScannedTo (S.view source.old) (length / 1024) fault n (S.view source.new)) }
+        (λ fault. (n : ℕ) × IsScannedTo (S.view source.old) (length / page_length) fault n (S.view source.new)) }
 {
-    let count = length / 1024;
+    let count = length / PAGE;
     let mut page = [0; 1024];
     for n in 0..count {
         if let Err(fault) = fetch(source, n, &mut page) {

@@ -2,6 +2,7 @@
 
 ghost use Rattle.std.specs.Prelude.{◌≡◌, Some, None, MatchResult};
 
+use crate::place::PAGE;
 use e57_base::{Fault, Kind};
 use e57_bits::{u32_at, u64_at};
 
@@ -43,7 +44,7 @@ impl Header {
             return Err(Fault::new(Kind::FileLength, length, stated));
         }
         let page_size = u64_at(bytes, 40);
-        if page_size != 1024 {
+        if page_size != PAGE {
             return Err(Fault::new(Kind::PageSize, page_size, 0));
         }
         Ok(Header {

@@ -4,11 +4,14 @@
 
 mod fetch;
 mod header;
+mod kept;
+mod named;
 mod pages;
 mod piece;
 mod place;
 
 pub use header::Header;
+pub use named::open_file;
 pub use pages::{Cut, Pages};
 pub use place::{one_physical, physical_of, place_of};
 

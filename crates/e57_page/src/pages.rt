@@ -1,13 +1,19 @@
 //! The pages of an open file.
 
-ghost use Rattle.std.specs.Prelude.{◌≡◌, ◌≢◌, ◌+◌, ◌*◌, ◌/◌, ◌≤◌, ◌<◌, ℕ, Some, length, MatchResult};
-ghost use Rattle.e57_page.specs.File.{length_fault};
+ghost use Rattle.std.specs.Prelude.{◌≡◌, ◌+◌, ◌*◌, ◌/◌, ◌≤◌, ◌<◌, ℕ, Some, None, length, IfSome, MatchResult};
+ghost use Rattle.e57_base.specs.Source.{page_length};
+ghost use Rattle.e57_page.specs.Place.{payload_length};
+ghost use Rattle.e57_page.specs.Header.{header_of};
+ghost use Rattle.e57_page.specs.File.{length_fault, opening_fault};
+ghost use Rattle.e57_page.specs.Kept.{KeepsFirst};
 ghost use Rattle.e57_page.specs.Pages.{IsOpened, IsNotOpened, ReadsRange, IsCutAt, IsScanned, IsScannedTo};
-ghost use Rattle.e57_page.specs.Fetch.{ReadsPiece, IsNotFetched};
+ghost use Rattle.e57_page.specs.Fetch.{ReadsPiece, LosesPiece};
 
-use crate::fetch::{fetch_first, keep, scan};
+use crate::fetch::{fetch, fetch_first, scan};
 use crate::header::Header;
-use crate::piece::{PAYLOAD, before_page, copy_piece, span_end};
+use crate::kept::{Kept, keep, keep_first, kept_page};
+use crate::piece::{before_page, copy_piece, span_end};
+use crate::place::{PAGE, PAYLOAD};
 use e57_base::{Fault, Kind, ReadFault, Source};
 use std::marker::Model;
 
@@ -22,14 +28,14 @@ pub struct Cut {
 
 /// An open file whose length, header and first page are right (ASTM E2807, physical layout: pages of 1024 bytes).
 ///
-/// It keeps the page that it read last. No byte of a page with a wrong word is ever given.
+/// It keeps the pages that it read last, up to 72, in itself: page n in place n % 72. A page that is kept isn't asked
+/// for again. No byte of a page with a wrong word is ever given.
 #[derive(Drop)]
 pub struct Pages<S: Source> {
     source: S,
     length: u64,
     header: Header,
-    number: u64,
-    page: [u8; 1024],
+    kept: Kept,
 }
 
 impl<S: Source> Model for Pages<S> {
@@ -38,9 +44,9 @@ impl<S: Source> Model for Pages<S> {
 
     ghost Value = { Reading S };
 
-    ghost view = { λ p. record { source = p.source; length = p.length; header = p.header; kept = p.number } };
+    ghost view = { λ p. record { source = p.source; length = p.length; header = p.header; kept = p.kept.numbers } };
 
-    ghost invariant = { λ p. IsSound (S.view p.source) p.length p.header p.number p.page };
+    ghost invariant = { λ p. IsSound (S.view p.source) p.length p.header p.kept.numbers p.kept.pages };
 }
 
 impl<S: Source> Pages<S> {
@@ -51,7 +57,7 @@ impl<S: Source> Pages<S> {
     /// `Page` where the word of page 0 is wrong.
     pub fn open(mut source: S, length: u64) -> Result<Pages<S>, (S, ReadFault)>
         requires { (S.view source).size ≡ Some length }
-        ensures kept { MatchResult result (λ pages. pages.kept ≡ 0) (λ _. Unit {0}) }
+        ensures kept { MatchResult result (λ pages. KeepsFirst pages.kept) (λ _. Unit {0}) }
         ensures opened { MatchResult result
             (λ pages. IsOpened (S.view source) length pages.length pages.header (S.view pages.source))
             (λ refusal. IsNotOpened (S.view source) length refusal.1 (S.view refusal.0)) }
@@ -65,8 +71,7 @@ impl<S: Source> Pages<S> {
                 source,
                 length,
                 header,
-                number: 0,
-                page,
+                kept: keep_first(&page),
             }),
             Err(fault) => Err((source, fault)),
         }
@@ -79,38 +84,46 @@ impl<S: Source> Pages<S> {
         self.source
     }
 
-    /// The numbers of the file's header.
+    /// The numbers of the file's header. The file is the one that was opened, so it has no fault of opening.
     pub fn header(&self) -> &Header
-        ensures { result.now ≡ self.now.header }
+        ensures header { result.now ≡ self.now.header }
+        ensures agrees { self.now.header.length ≡ self.now.length }
+        ensures first { IfSome (S.view self.now.source).held (λ file. opening_fault file ≡ None) }
+        ensures read { IfSome (S.view self.now.source).held (λ file. self.now.header ≡ header_of file) }
     {
         &self.header
     }
 
-    /// The number of logical bytes of the file, which is still open.
+    /// The number of logical bytes of the file, which is still open and has one or more whole pages.
     pub fn logical_len(&self) -> u64
-        ensures count { result ≡ self.now.length / 1024 * 1020 }
+        ensures count { result ≡ self.now.length / page_length * payload_length }
         ensures open_size { (S.view self.now.source).size ≡ Some self.now.length }
+        ensures whole { length_fault self.now.length ≡ None }
     {
-        self.length / 1024 * 1020
+        self.length / PAGE * PAYLOAD
     }
 
     /// Reads the logical bytes from place `at` on into `out`. The range lies in the logical bytes.
     ///
-    /// Asks for pages of the range alone, in order, each at most once. A `Cut` says that the first page of the range
-    /// that failed (`Source`) or whose word is wrong (`Page`) stopped the read: the bytes of the range before that
-    /// page were read, and the rest of `out` is as it was. The value can be used afterwards as before.
+    /// Asks for those pages of the range that aren't kept, in ascending order, each once. Afterwards the last 72 pages of
+    /// the range are kept. A `Cut` says that the first page of the range that failed (`Source`) or whose word is wrong
+    /// (`Page`) stopped the read: the bytes of the range before that page were read, and the rest of `out` is as it was.
+    /// The value can be used afterwards as before.
     pub fn read(&mut self, at: u64, out: &mut [u8]) -> Result<(), Cut>
-        requires { at + length out.old ≤ self.old.length / 1024 * 1020 }
+        requires { at + length out.old ≤ self.old.length / page_length * payload_length }
         ensures length { self.new.length ≡ self.old.length }
         ensures header { self.new.header ≡ self.old.header }
-        ensures range { MatchResult result
-            (λ _. ReadsRange (S.view self.old.source) self.old.kept at (length out.old) out.new (S.view self.new.source))
-            (λ cut. (n : ℕ) × IsCutAt (S.view self.old.source) self.old.kept at out.old cut out.new n (S.view self.new.source)) }
+        ensures range { let old = S.view self.old.source in
+            let new = S.view self.new.source in
+            MatchResult result
+            (λ _. ReadsRange old self.old.kept at (length out.old) out.new new self.new.kept)
+            (λ cut. (n : ℕ) × IsCutAt old self.old.kept at out.old cut out.new n new self.new.kept) }
     {
         let limit = self.logical_len();
         prove!(at <= limit);
-        for n in at / PAYLOAD..span_end(at, out.len()) {
-            if let Err(fault) = self.read_piece(n, at, out) {
+        let high = span_end(at, out.len());
+        for n in at / PAYLOAD..high {
+            if let Err(fault) = self.read_piece(n, high, at, out) {
                 return Err(Cut {
                     done: before_page(n, at),
                     fault,
@@ -120,48 +133,60 @@ impl<S: Source> Pages<S> {
         Ok(())
     }
 
-    /// Reads the bytes of the range from place `at` on that lie in page `n`, each to its place in `out`. After a
-    /// refusal `out` is as it was.
-    fn read_piece(&mut self, n: u64, at: u64, out: &mut [u8]) -> Result<(), ReadFault>
-        requires page { n < self.old.length / 1024 }
-        requires range { at + length out.old ≤ self.old.length / 1024 * 1020 }
-        requires reaches { at < 1020 * (n + 1) }
-        requires begins { 1020 * n < at + length out.old }
+    /// Reads the bytes of the range from place `at` on that lie in page `n`, each to its place in `out`. The range's pages
+    /// are below `high`. After a refusal `out` and the pages that are kept are as they were.
+    fn read_piece(&mut self, n: u64, high: u64, at: u64, out: &mut [u8]) -> Result<(), ReadFault>
+        requires page { n < self.old.length / page_length }
+        requires below { n < high }
+        requires reaches { at < payload_length * (n + 1) }
+        requires begins { payload_length * n < at + length out.old }
         ensures length { self.new.length ≡ self.old.length }
         ensures header { self.new.header ≡ self.old.header }
-        ensures piece { MatchResult result
-            (λ _. (self.new.kept ≡ n) × ReadsPiece (S.view self.old.source) self.old.kept at n out.old out.new (S.view self.new.source))
-            (λ fault. (self.old.kept ≢ n) × (out.new ≡ out.old) × IsNotFetched (S.view self.old.source) n fault (S.view self.new.source)) }
+        ensures piece { let old = S.view self.old.source in
+            let new = S.view self.new.source in
+            MatchResult result
+            (λ _. ReadsPiece old self.old.kept at n high out.old out.new new self.new.kept)
+            (λ fault. LosesPiece old self.old.kept n out.old fault out.new new self.new.kept) }
     {
-        if let Err(fault) = keep(&mut self.source, n, &mut self.number, &mut self.page) {
-            return Err(fault);
+        if let Some(page) = kept_page(&self.kept, n) {
+            copy_piece(page, n, at, out);
+            return Ok(());
         }
-        copy_piece(&self.page, n, at, out);
+        let mut page = [0; 1024];
+        fetch(&mut self.source, n, &mut page)?;
+        keep(&mut self.kept, n, high, &page);
+        copy_piece(&page, n, at, out);
         Ok(())
     }
 
     /// Asks for each page in order, once, and tests its word, up to the first one that fails or is wrong. Answers
-    /// the number of pages.
+    /// the number of pages. The pages that are kept stay kept, and no other is.
     ///
     /// Refuses `Source` where the source failed, and `Page` for the first page whose word is wrong.
     pub fn scan(&mut self) -> Result<u64, ReadFault>
         ensures length { self.new.length ≡ self.old.length }
         ensures header { self.new.header ≡ self.old.header }
-        ensures count { MatchResult result (λ count. count ≡ self.old.length / 1024) (λ _. Unit {0}) }
-        ensures pages { MatchResult result
-            (λ count. IsScanned (S.view self.old.source) count (S.view self.new.source))
-            (λ fault. (n : ℕ) × IsScannedTo (S.view self.old.source) (self.old.length / 1024) fault n (S.view self.new.source)) }
+        ensures kept { self.new.kept ≡ self.old.kept }
+        ensures count { MatchResult result (λ count. count ≡ self.old.length / page_length) (λ _. Unit {0}) }
+        ensures pages { let old = S.view self.old.source in
+            let new = S.view self.new.source in
+            MatchResult result
+            (λ count. IsScanned old count new)
+            (λ fault. (n : ℕ) × IsScannedTo old (self.old.length / page_length) fault n new) }
     {
         let length = self.length;
         scan(&mut self.source, length)
     }
 }
 
+/// The most bytes that a file has.
+const LONGEST: u64 = 1 << 48;
+
 /// The fault of a length in bytes: it is 0, no multiple of 1024 or above 2^48.
 #[tactic(auto, unfolding(crate::specs::File::length_fault))]
 fn judge_length(length: u64) -> Option<Fault>
     ensures { result ≡ length_fault length }
 {
-    let wrong = length == 0 || length % 1024 != 0 || length > 1 << 48;
+    let wrong = length == 0 || length % PAGE != 0 || length > LONGEST;
     wrong.then_some(Fault::new(Kind::FileLength, length, 0))
 }

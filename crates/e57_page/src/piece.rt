@@ -4,8 +4,7 @@ ghost use Rattle.std.specs.Prelude.{◌≡◌, ◌+◌, ◌-◌, ◌*◌, ◌<�
 ghost use Rattle.e57_page.specs.Place.{span_end as the_span_end};
 ghost use Rattle.e57_page.specs.Fetch.{page_piece, with_part};
 
-/// The logical bytes of a page.
-pub const PAYLOAD: u64 = 1020;
+use crate::place::PAYLOAD;
 
 /// The first page behind the range of `count` logical bytes from place `at` on.
 pub fn span_end(at: u64, count: usize) -> u64

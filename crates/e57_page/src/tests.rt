@@ -1,7 +1,7 @@
 //! Worked places, and a file of two pages in memory.
 
-use crate::{Cut, Pages, physical_of, place_of};
-use e57_base::{Fault, Kind, MemSource, ReadFault, Source};
+use crate::{Cut, Pages, open_file, physical_of, place_of};
+use e57_base::{Failed, Fault, Kind, MemSource, ReadFault, Source};
 use e57_crc::crc32c;
 use std::alloc::{AllocError, Global};
 use std::test::Fail;
@@ -33,6 +33,24 @@ fn page_with(alloc: Global, front: &[u8], filling: u8, damage: u32) -> Result<Ve
     Ok(page)
 }
 
+// The header of a file of 80 pages.
+const HEADER_OF_80: &[u8; 48] =
+    b"ASTM-E57\x01\0\0\0\0\0\0\0\0\x40\x01\0\0\0\0\0\x88\0\0\0\0\0\0\0\xa5\x03\0\0\0\0\0\0\0\x04\0\0\0\0\0\0";
+
+// The open file of 80 pages.
+fn many_pages(alloc: Global) -> Result<Pages<MemSource>, Fail> {
+    let mut bytes = page_with(alloc, HEADER_OF_80, 1, 0)?;
+    for n in 1..80 {
+        bytes.extend_from_slice(&page_with(alloc, &[], n, 0)?)?;
+    }
+    let mut source = MemSource::new(alloc, 200)?;
+    source.add("many.e57", bytes)?;
+    match open_file("many.e57", source) {
+        Ok(pages) => Ok(pages),
+        Err((_, fault)) => Err(fault)?,
+    }
+}
+
 // The open file of two pages, the second one with this damage.
 fn two_pages(alloc: Global, damage: u32) -> Result<Pages<MemSource>, Fail> {
     let mut bytes = page_with(alloc, HEADER, 1, 0)?;
@@ -55,18 +73,39 @@ fn reads_across_pages(rt: HostRuntime) -> Result<(), Fail> {
     let mut out = [0; 4];
     pages.read(1018, &mut out)?;
     assert_eq!(rt; out, [1, 1, 2, 2]);
+    pages.read(1018, &mut out)?;
     assert_eq!(rt; pages.scan()?, 2);
     assert_eq!(rt; pages.into_source().asked(), [0, 1, 0, 1].as_slice());
     Ok(())
 }
 
+// Reads all logical bytes.
+fn read_all(pages: &mut Pages<MemSource>, out: &mut [u8]) -> Result<(), Fail> {
+    if pages.logical_len() != out.len() as u64 {
+        return Err(Failed.into());
+    }
+    pages.read(0, out)?;
+    Ok(())
+}
+
+// Of a range of 80 pages the last 72 are kept, and the first 8 are asked for again each time.
+#[test]
+fn keeps_pages(rt: HostRuntime) -> Result<(), Fail> {
+    let mut pages = many_pages(rt.alloc())?;
+    let mut out = vec![in rt.alloc(); 0; 81_600]?;
+    for _ in 0..3 {
+        read_all(&mut pages, &mut out)?;
+        assert_eq!(rt; out.get(81_599), Some(&79));
+    }
+    let source = pages.into_source();
+    assert_eq!(rt; source.asked().len(), 1 + 79 + 8 + 8);
+    assert_eq!(rt; source.asked().get(80), Some(&0));
+    Ok(())
+}
+
 #[test]
 fn stops_at_a_wrong_page(rt: HostRuntime) -> Result<(), Fail> {
-    let fault = ReadFault::Refused(Fault {
-        kind: Kind::Page,
-        a: 1,
-        b: 0,
-    });
+    let fault = ReadFault::Refused(Fault::new(Kind::Page, 1, 0));
     let mut pages = two_pages(rt.alloc(), 1)?;
     assert_eq!(rt; pages.logical_len(), 2040);
     let mut out = [0; 4];

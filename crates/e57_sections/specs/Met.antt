@@ -12,7 +12,8 @@ use Rattle.e57_layout.specs.Items.{item_at}
 use Rattle.e57_layout.specs.declared.section.Section.{Section}
 use Rattle.e57_layout.specs.declared.packet.Entry.{Entry}
 use Rattle.e57_layout.specs.declared.field.Fixed.{Fixed}
-use Rattle.e57_sections.specs.Section.{section_fault, logical_size, or_zero}
+use Rattle.e57_page.specs.File.{logical_size}
+use Rattle.e57_sections.specs.Section.{section_fault, or_zero}
 use Rattle.e57_sections.specs.Walk.{Packet, is_data_at, packet_head_fault, walk_from}
 use Rattle.e57_sections.specs.Index.{known_place, entries_of, index_shape_fault, index_packet_fault, root_fault, root_level, root_entry}
 use Rattle.e57_sections.specs.Chunks.{data_packets, stream_of, by_chunk, float_items}

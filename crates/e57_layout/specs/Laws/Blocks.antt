@@ -1,23 +1,12 @@
 -- Laws of records that are cut into blocks: joined again they are the records, and each block has its columns.
-use Rattle.std.proofs.Common.{◌≡◌, ℕ, zero, suc, ◌+◌, ◌-◌, ◌*◌, ◌<◌, ◌≤◌, ◌==◌, min, Bool, true, false, cond, List, [], ◌∷◌, ◌++◌, length, map, take, drop, get_or, refl, sym, ap, ◌∙◌, arith, length-append, length-take, length-drop}
+use Rattle.std.proofs.Common.{◌≡◌, ℕ, zero, suc, ◌+◌, ◌-◌, ◌*◌, ◌<◌, ◌≤◌, ◌==◌, min, false, cond, List, [], ◌∷◌, ◌++◌, length, take, drop, get_or, refl, sym, ap, ◌∙◌, arith, length-append, length-take, length-drop}
 use Rattle.std.specs.List.{flat_map, AllByRecursion}
 use Rattle.std.proofs.lemmas.Bool.{cond_both, cond-false, eqb-true, eqb-false, ne_eqb}
-use Rattle.std.proofs.lemmas.List.{take-append-drop, nil_from_length}
+use Rattle.std.proofs.lemmas.List.{take-append-drop, nil_from_length, take-take, drop-take, drop-drop, take_at, drop_at}
 use Rattle.e57_layout.specs.Values.{ItemKind, Value}
 use Rattle.e57_layout.specs.Items.{IsItem, AreItems, AreColumns}
-use Rattle.e57_layout.specs.Packing.{first_records, later_records, Block, cut_blocks, blocks}
-
--- ---- what holds of each part
-
-pub all-take : {X : Type 0} (P : X → Type 0) → (n : ℕ) (xs : List X) → AllByRecursion P xs → AllByRecursion P (take n xs)
-all-take P zero xs h = tt
-all-take P (suc n) [] h = tt
-all-take P (suc n) (x ∷ xs) h = (h.0, all-take P n xs h.1)
-
-pub all-drop : {X : Type 0} (P : X → Type 0) → (n : ℕ) (xs : List X) → AllByRecursion P xs → AllByRecursion P (drop n xs)
-all-drop P zero xs h = h
-all-drop P (suc n) [] h = tt
-all-drop P (suc n) (x ∷ xs) h = all-drop P n xs h.1
+use Rattle.e57_layout.specs.Laws.Lists.{all-append, all-take, all-drop}
+use Rattle.e57_layout.specs.Packing.{first_records, later_records, join_columns, Block, cut_blocks, blocks}
 
 -- ---- columns
 
@@ -165,3 +154,77 @@ cut_blocks-records (suc most) n count columns some h =
 pub blocks-records : (n count : ℕ) (columns : List (List Value)) → 0 < n → block_records (blocks n count columns) ≡ count
 unfolding blocks
 blocks-records n count columns some = cut_blocks-records count n count columns some (omega arith)
+
+-- ---- blocks after whole blocks
+
+first_records-first : (n m : ℕ) (columns : List (List Value)) → first_records n (first_records (n + m) columns) ≡ first_records n columns
+unfolding first_records
+first_records-first n m [] = refl
+first_records-first n m (column ∷ columns) = rw (take-take n (n + m) column (omega arith), first_records-first n m columns)
+
+later_records-first : (n m : ℕ) (columns : List (List Value)) → later_records n (first_records (n + m) columns) ≡ first_records m (later_records n columns)
+unfolding first_records later_records
+later_records-first n m [] = refl
+later_records-first n m (column ∷ columns) = rw (drop-take n m column, later_records-first n m columns)
+
+pub later_records-later : (n m : ℕ) (columns : List (List Value)) → later_records m (later_records n columns) ≡ later_records (n + m) columns
+unfolding later_records
+later_records-later n m [] = refl
+later_records-later n m (column ∷ columns) = rw (drop-drop m n column, later_records-later n m columns)
+
+later_records-zero : (columns : List (List Value)) → later_records 0 columns ≡ columns
+unfolding later_records
+later_records-zero [] = refl
+later_records-zero (column ∷ columns) = ap (λ later. column ∷ later) (later_records-zero columns)
+
+-- the first blocks are those of the first n * m records, the others those of what follows
+pub blocks-whole : (m n count : ℕ) (columns : List (List Value)) → 0 < n → blocks n (n * m + count) columns ≡ blocks n (n * m) (first_records (n * m) columns) ++ blocks n count (later_records (n * m) columns)
+blocks-whole zero n count columns some =
+    let none : n * 0 ≡ 0 = grind arith in
+    let plain : 0 + count ≡ count = omega arith in
+    rw (none, plain, blocks-none, later_records-zero columns) refl
+blocks-whole (suc m) n count columns some =
+    let size : n * suc m ≡ n + n * m = grind arith in
+    let left : n + n * m + count - n ≡ n * m + count = omega arith in
+    let fewer : n + n * m - n ≡ n * m = omega arith in
+    let least : min n (n + n * m + count) ≡ n = omega arith in
+    let also : min n (n + n * m) ≡ n = omega arith in
+    rw (size, blocks-step n (n + n * m + count) columns some (omega arith), blocks-step n (n + n * m) (first_records (n + n * m) columns) some (omega arith), left, fewer, least, also, first_records-first n (n * m) columns, later_records-first n (n * m) columns, blocks-whole m n count (later_records n columns) some, later_records-later n (n * m) columns)
+    refl
+
+-- records after records
+pub join_columns-first : (kinds : List ItemKind) (n m : ℕ) (columns later : List (List Value)) → AreColumns kinds n columns → AreColumns kinds m later → first_records n (join_columns columns later) ≡ columns
+unfolding first_records join_columns
+join_columns-first [] n m [] [] h g = refl
+join_columns-first [] n m [] (more ∷ later) h g = absurd g
+join_columns-first [] n m (column ∷ columns) later h g = absurd h
+join_columns-first (kind ∷ kinds) n m [] later h g = absurd h
+join_columns-first (kind ∷ kinds) n m (column ∷ columns) [] h g = absurd g
+join_columns-first (kind ∷ kinds) n m (column ∷ columns) (more ∷ later) h g =
+    rw (take_at column more n h.0, join_columns-first kinds n m columns later h.2 g.2)
+
+pub join_columns-later : (kinds : List ItemKind) (n m : ℕ) (columns later : List (List Value)) → AreColumns kinds n columns → AreColumns kinds m later → later_records n (join_columns columns later) ≡ later
+unfolding later_records join_columns
+join_columns-later [] n m [] [] h g = refl
+join_columns-later [] n m [] (more ∷ later) h g = absurd g
+join_columns-later [] n m (column ∷ columns) later h g = absurd h
+join_columns-later (kind ∷ kinds) n m [] later h g = absurd h
+join_columns-later (kind ∷ kinds) n m (column ∷ columns) [] h g = absurd g
+join_columns-later (kind ∷ kinds) n m (column ∷ columns) (more ∷ later) h g =
+    rw (drop_at column more n h.0, join_columns-later kinds n m columns later h.2 g.2)
+
+pub join_columns-columns : (kinds : List ItemKind) (n m : ℕ) (columns later : List (List Value)) → AreColumns kinds n columns → AreColumns kinds m later → AreColumns kinds (n + m) (join_columns columns later)
+unfolding join_columns
+join_columns-columns [] n m [] [] h g = tt
+join_columns-columns [] n m [] (more ∷ later) h g = absurd g
+join_columns-columns [] n m (column ∷ columns) later h g = absurd h
+join_columns-columns (kind ∷ kinds) n m [] later h g = absurd h
+join_columns-columns (kind ∷ kinds) n m (column ∷ columns) [] h g = absurd g
+join_columns-columns (kind ∷ kinds) n m (column ∷ columns) (more ∷ later) h g =
+    (rw (length-append, h.0, g.0) refl, all-append (IsItem kind) column more h.1 g.1, join_columns-columns kinds n m columns later h.2 g.2)
+
+-- the blocks of records that fill whole blocks, and then those of the records after them
+pub blocks-joined : (kinds : List ItemKind) (m n count : ℕ) (columns later : List (List Value)) → 0 < n → AreColumns kinds (n * m) columns → AreColumns kinds count later → blocks n (n * m + count) (join_columns columns later) ≡ blocks n (n * m) columns ++ blocks n count later
+blocks-joined kinds m n count columns later some h g =
+    blocks-whole m n count (join_columns columns later) some
+    ∙ rw (join_columns-first kinds (n * m) count columns later h g, join_columns-later kinds (n * m) count columns later h g) refl

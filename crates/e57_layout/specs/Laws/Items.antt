@@ -1,24 +1,23 @@
 -- Laws of items: an item that is written is read again, of every kind.
-use Rattle.std.proofs.Common.{◌≡◌, ℕ, zero, suc, ◌+◌, ◌-◌, ◌*◌, ◌/◌, ◌%◌, ◌^◌, ◌<◌, ◌≤◌, ◌==◌, Bool, true, false, cond, ltb, leb, List, [], ◌∷◌, ◌++◌, length, map, take, drop, get_or, refl, sym, ap, ◌∙◌, arith, add-zero, length-append, append_assoc, append-nil, lit<, lit≤}
-use Rattle.std.specs.Prelude.{ℤ, pos, negsuc, ◌+ℤ◌, ◌≤ℤ◌}
-use Rattle.std.specs.Int.{int_gap}
-use Rattle.std.specs.List.{flat_map, AllByRecursion}
+use Rattle.std.proofs.Common.{◌≡◌, ℕ, zero, suc, ◌+◌, ◌*◌, ◌/◌, ◌%◌, ◌^◌, ◌<◌, ◌≤◌, ◌==◌, ltb, leb, List, [], ◌∷◌, ◌++◌, length, map, drop, get_or, refl, sym, ap, ◌∙◌, arith, length-append, append_assoc, append-nil}
+use Rattle.std.specs.Prelude.{ℤ, pos, ◌+ℤ◌, ◌≤ℤ◌, FitsSigned}
+use Rattle.std.specs.Int.{int_gap, w64}
+use Rattle.std.specs.List.{flat_map}
 use Rattle.std.proofs.Math.Nat.{mod-eq_of_lt, le_refl}
-use Rattle.std.proofs.lemmas.Bool.{cond_both, cond-true, cond-false, le-ltb, lt-ltb, le-leb, eqb-true, eq-eqb, cases_Bool, leb-true, leb-false}
+use Rattle.std.proofs.lemmas.Bool.{cond_both, ne_eqb, eq-eqb, cond-true, cond-false, le-ltb, lt-ltb, eqb-true, leb-true}
 use Rattle.std.proofs.lemmas.List.{take_at, drop_at, length-map, get_or-map}
 use Rattle.std.proofs.lemmas.Nat.{mul-le}
 use Rattle.std.proofs.Math.IntN.{+ℤ_idr}
 use Rattle.e57_bits.specs.Bits.{number}
-use Rattle.e57_bits.specs.BitLaws.{number-take}
 use Rattle.e57_layout.specs.Bytes.{low_bytes, packed}
 use Rattle.e57_layout.specs.Standing.{Stands}
 use Rattle.e57_layout.specs.Widths.{width}
-use Rattle.e57_layout.specs.Values.{ItemKind, integers, words, strings, Value, whole, word, octets, Outcome, here, short, over_limit, out_of_range}
-use Rattle.e57_layout.specs.Strings.{string_limit, PrefixRead, prefix_found, first_prefix, after_prefix, StringRead, string_found, first_string, string_at, on_string, string_length_at, string_prefix, string_bytes_of}
+use Rattle.e57_layout.specs.Values.{ItemKind, integers, words, strings, Value, whole, word, octets, Outcome, here, short, out_of_range}
+use Rattle.e57_layout.specs.Strings.{string_limit, prefix_found, first_prefix, after_prefix, string_found, first_string, string_at, on_string, string_prefix, string_bytes_of}
 use Rattle.e57_layout.specs.Items.{bits_at, above, item_at, IsItem, AreItems, stored, octets_of, field_bytes}
-use Rattle.e57_layout.specs.Laws.Numbers.{AreBelow, length-low_bytes, low_bytes-suc, number-low_bytes_all, length-packed, packed-item}
+use Rattle.e57_layout.specs.Laws.Numbers.{AreBelow, length-low_bytes, low_bytes-suc, length-packed, packed-item}
 use Rattle.e57_layout.specs.Laws.Standing.{Stands-here, Stands-low_bytes}
-use Rattle.e57_layout.specs.Laws.Widths.{width-holds, gap-back, gap-le}
+use Rattle.e57_layout.specs.Laws.Widths.{width-holds, gap-back, gap-le, gap-lt}
 
 -- ---- the items of a list
 
@@ -42,6 +41,34 @@ bits_at-short w found stream k h = cond-true (ltb (8 * length stream) (w * k + w
 rows : (w k n : ℕ) → k < n → w * k + w ≤ w * n
 rows w k n f = let e : w * k + w ≡ w * suc k = grind arith in rw e (mul-le w (suc k) w n (le_refl w) f)
 
+-- ---- what an item is, by kind
+
+-- only one integer is possible
+pub item_at-constant : (low high : ℤ) (stream : List ℕ) (k : ℕ) → width low high ≡ 0 → item_at (integers low high) stream k ≡ here (whole low)
+unfolding item_at
+item_at-constant low high stream k none =
+    cond-true (width low high == 0) (here (whole low)) (bits_at (width low high) (above low high k) stream k) (eq-eqb (width low high) 0 none)
+
+pub item_at-integers : (low high : ℤ) (stream : List ℕ) (k : ℕ) → 0 < width low high → item_at (integers low high) stream k ≡ bits_at (width low high) (above low high k) stream k
+unfolding item_at
+item_at-integers low high stream k some =
+    cond-false (width low high == 0) (here (whole low)) (bits_at (width low high) (above low high k) stream k) (ne_eqb (width low high) 0 (λ none. omega arith))
+
+pub item_at-words : (w : ℕ) (stream : List ℕ) (k : ℕ) → item_at (words w) stream k ≡ bits_at w (λ n. here (word n)) stream k
+unfolding item_at
+item_at-words w stream k = refl
+
+pub item_at-strings : (stream : List ℕ) (k : ℕ) → item_at strings stream k ≡ string_at 0 stream k
+unfolding item_at
+item_at-strings stream k = refl
+
+-- an integer within its limits, and one above them
+pub above-within : (low high : ℤ) (k n : ℕ) → n ≤ int_gap low high → above low high k n ≡ here (whole (low +ℤ pos n))
+above-within low high k n h = cond-false (ltb (int_gap low high) n) (out_of_range k) (here (whole (low +ℤ pos n))) (le-ltb (int_gap low high) n h)
+
+pub above-over : (low high : ℤ) (k n : ℕ) → int_gap low high < n → above low high k n ≡ out_of_range k
+above-over low high k n h = cond-true (ltb (int_gap low high) n) (out_of_range k) (here (whole (low +ℤ pos n))) (lt-ltb (int_gap low high) n h)
+
 -- item k of packed numbers
 pub packed-found : (w : ℕ) (found : ℕ → Outcome) (xs : List ℕ) (k : ℕ) → AreBelow w xs → k < length xs → bits_at w found (packed w xs) k ≡ found (get_or xs k 0)
 packed-found w found xs k small h =
@@ -61,7 +88,7 @@ one_byte n rest h =
     let byte : 2 * n % 256 ≡ 2 * n = mod-eq_of_lt (omega arith) in
     let even : 2 * n % 2 ≡ 0 = omega arith in
     let half : 2 * n / 2 ≡ n = omega arith in
-    rw (byte, even, half) refl
+    rw (byte, even, half, le-ltb string_limit n (omega arith)) refl
 
 -- a prefix of eight bytes
 eight : (b : ℕ) (bs rest : List ℕ) (n m : ℕ) → b % 2 ≡ 1 → 7 ≤ length bs → number (b ∷ bs) 0 64 ≡ m → m / 2 ≡ n → n ≤ string_limit → drop 7 bs ≡ rest → first_prefix (b ∷ bs) ≡ prefix_found n rest
@@ -118,8 +145,12 @@ IsKind (integers low high) = (low ≤ℤ high) × (int_gap low high < 2 ^ 64)
 IsKind (words w) = Unit {0}
 IsKind strings = Unit {0}
 
+-- limits of 64 bits
+pub IsKind-fits : (low high : ℤ) → FitsSigned w64 low → FitsSigned w64 high → low ≤ℤ high → IsKind (integers low high)
+IsKind-fits low high h g l = (l, gap-lt low high h g)
+
 -- integers as numbers
-stored-below : (low high : ℤ) (values : List Value) → int_gap low high < 2 ^ 64 → AreItems (integers low high) values → AreBelow (width low high) (map (stored low) values)
+pub stored-below : (low high : ℤ) (values : List Value) → int_gap low high < 2 ^ 64 → AreItems (integers low high) values → AreBelow (width low high) (map (stored low) values)
 unfolding stored
 stored-below low high [] h g = tt
 stored-below low high (whole z ∷ values) h g =
@@ -130,7 +161,7 @@ stored-below low high (word n ∷ values) h g = absurd g.0
 stored-below low high (octets t ∷ values) h g = absurd g.0
 
 -- words as numbers
-words-below : (w : ℕ) (values : List Value) → AreItems (words w) values → AreBelow w (map (stored (pos 0)) values)
+pub words-below : (w : ℕ) (values : List Value) → AreItems (words w) values → AreBelow w (map (stored (pos 0)) values)
 unfolding stored
 words-below w [] g = tt
 words-below w (whole z ∷ values) g = absurd g.0
@@ -181,3 +212,27 @@ field_bytes-item (words w) values k d ok h g =
     packed-found w (λ n. here (word n)) (map (stored (pos 0)) values) k (words-below w values h) many ∙ ap (λ n. here (word n)) number_k ∙ ap here (word-stored w (get_or values k d) item)
 field_bytes-item strings values k d ok h g =
     ap (λ xs. string_at 0 xs k) (sym (append-nil (flat_map (λ value. string_bytes_of (octets_of value)) values))) ∙ string_at-written 0 values [] k d h g
+
+-- ---- whole words
+
+-- a stream has as many words as whole groups of 4 or 8 bytes
+pub words_32-here : (stream : List ℕ) (k : ℕ) → k < length stream / 4 → item_at (words 32) stream k ≡ here (word (number stream (32 * k) 32))
+words_32-here stream k h = item_at-words 32 stream k ∙ bits_at-found 32 (λ n. here (word n)) stream k (omega arith)
+
+pub words_32-short : (stream : List ℕ) (k : ℕ) → length stream / 4 ≤ k → item_at (words 32) stream k ≡ short k
+words_32-short stream k h = item_at-words 32 stream k ∙ bits_at-short 32 (λ n. here (word n)) stream k (omega arith)
+
+pub words_64-here : (stream : List ℕ) (k : ℕ) → k < length stream / 8 → item_at (words 64) stream k ≡ here (word (number stream (64 * k) 64))
+words_64-here stream k h = item_at-words 64 stream k ∙ bits_at-found 64 (λ n. here (word n)) stream k (omega arith)
+
+pub words_64-short : (stream : List ℕ) (k : ℕ) → length stream / 8 ≤ k → item_at (words 64) stream k ≡ short k
+words_64-short stream k h = item_at-words 64 stream k ∙ bits_at-short 64 (λ n. here (word n)) stream k (omega arith)
+
+-- a field of words has the bytes of its words
+pub length-words : (n : ℕ) (values : List Value) → length (field_bytes (words (8 * n)) values) ≡ n * length values
+unfolding field_bytes
+length-words n values =
+    rw (length-packed, length-map) (whole_bytes (n * length values) (8 * n * length values) (grind arith))
+  where
+    whole_bytes : (m t : ℕ) → t ≡ 8 * m → (t + 7) / 8 ≡ m
+    whole_bytes m t e = omega arith

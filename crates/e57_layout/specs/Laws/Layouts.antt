@@ -1,6 +1,6 @@
 -- Laws of headers and packets: one that is spelled at a place is read there as itself.
-use Rattle.std.proofs.Common.{◌≡◌, ℕ, zero, suc, ◌+◌, ◌-◌, ◌*◌, ◌/◌, ◌%◌, ◌^◌, ◌<◌, ◌≤◌, ◌==◌, Bool, true, false, List, [], ◌∷◌, ◌++◌, length, take, drop, map, replicate, refl, sym, ap, ◌∙◌, subst, arith, add-zero, length-append, lit<, lit≤}
-use Rattle.std.specs.List.{flat_map, concat, sum, AllByRecursion}
+use Rattle.std.proofs.Common.{◌≡◌, ℕ, ◌+◌, ◌-◌, ◌*◌, ◌%◌, ◌^◌, ◌<◌, ◌≤◌, ◌==◌, ◌&&◌, Bool, true, false, List, [], ◌∷◌, ◌++◌, length, take, drop, replicate, refl, sym, ap, ◌∙◌, subst, arith, length-append, lit<}
+use Rattle.std.specs.List.{flat_map, concat, AllByRecursion}
 use Rattle.std.proofs.lemmas.List.{length-map, length-replicate}
 use Rattle.std.proofs.lemmas.List.Sums.{sum_by-cons}
 use Rattle.e57_bits.specs.Bits.{number}
@@ -15,8 +15,8 @@ use Rattle.e57_layout.specs.Standing.{Stands}
 use Rattle.e57_layout.specs.Headers.{section_head, section_head_at, blob_head_of, blob_head_at}
 use Rattle.e57_layout.specs.Packets.{packet_head, whole_words, padding, lengths, total, data_size, stream_lengths, flag, data_head, data_packet, sort_at, restart_at, length_at, packet_head_at, stream_count_at, lengths_at, streams_at, streams_of}
 use Rattle.e57_layout.specs.IndexPackets.{index_head, entry_bytes, index_size, index_packet, entry_count_at, level_at, entry_at, entries_at}
-use Rattle.e57_layout.specs.Laws.Numbers.{AreBelow, length-low_bytes, number-low_bytes, low_bytes-suc}
-use Rattle.e57_layout.specs.Laws.Standing.{Stands-front, Stands-behind, Stands-low_bytes, Stands-number, Stands-past, Stands-past_number, Stands-number_first}
+use Rattle.e57_layout.specs.Laws.Numbers.{AreBelow, length-low_bytes}
+use Rattle.e57_layout.specs.Laws.Standing.{Stands-front, Stands-behind, Stands-low_bytes, Stands-past, Stands-past_number, Stands-number_first}
 
 -- ---- the headers of sections
 
@@ -94,6 +94,18 @@ packet_head-length b q h small stands = ap (λ (p : PacketHead). p.length) (pack
 packet_head-flags : (b : List ℕ) (q : ℕ) (h : PacketHead) → IsPacketHead h → Stands b q (packet_head h) → number b (8 * q + 8) 8 ≡ h.flags
 unfolding packet_head_at
 packet_head-flags b q h small stands = ap (λ (p : PacketHead). p.flags) (packet_head-read b q h small stands)
+
+-- a number's lowest bit
+lowest_bit : (b : List ℕ) (t : ℕ) → number b t 1 ≡ number b t 8 % 2
+lowest_bit b t =
+    let split : number b t 8 ≡ number b t 1 + 2 * number b (t + 1) 7 = number-split b t 1 7 in
+    let low : number b t 1 < 2 = number-lt b t 1 in
+    omega arith
+
+-- the restart flag is bit 0 of a data packet's flags
+pub restart_at-flags : (b : List ℕ) (q : ℕ) → restart_at b q ≡ ((packet_head_at b q).sort == 1 && (packet_head_at b q).flags % 2 == 1)
+unfolding restart_at packet_head_at
+restart_at-flags b q = rw (lowest_bit b (8 * q + 8)) refl
 
 -- ---- a whole number of words
 
@@ -203,7 +215,7 @@ data_packet-read b q restart streams fits stands =
     let flagged : number b (8 * q + 8) 8 ≡ flag restart = packet_head-flags b q (data_head restart streams) small head in
     record {
       sort = sort;
-      restart = rw (sort, lowest_bit (8 * q + 8) (flag restart) flagged) (flag-is restart);
+      restart = rw (sort, lowest_bit b (8 * q + 8), flagged) (flag-is restart);
       size = packet_head-length b q (data_head restart streams) small head;
       count = count;
       sizes = rw (count, sizes);
@@ -220,12 +232,6 @@ data_packet-read b q restart streams fits stands =
 
     length-counted : (ns : List ℕ) → length (low_bytes 2 (length ns) ++ flat_map (low_bytes 2) ns) ≡ 2 + 2 * length ns
     length-counted ns = length-stream_lengths ns
-
-    lowest_bit : (t m : ℕ) → number b t 8 ≡ m → number b t 1 ≡ m % 2
-    lowest_bit t m h =
-        let split : number b t 8 ≡ number b t 1 + 2 * number b (t + 1) 7 = number-split b t 1 7 in
-        let low : number b t 1 < 2 = number-lt b t 1 in
-        omega arith
 
 -- ---- index packets
 

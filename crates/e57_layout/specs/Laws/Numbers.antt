@@ -1,7 +1,8 @@
 -- Laws of numbers as bytes and of items of w bits.
-use Rattle.std.proofs.Common.{◌≡◌, ℕ, zero, suc, ◌+◌, ◌-◌, ◌*◌, ◌/◌, ◌%◌, ◌^◌, ◌<◌, ◌≤◌, List, [], ◌∷◌, ◌++◌, length, take, drop, get_or, refl, sym, ap, ◌∙◌, arith, add-zero, zero-add, length-append, lit<, lit≤}
-use Rattle.std.specs.List.{AllByRecursion}
-use Rattle.std.proofs.Math.Nat.{mod-eq_of_lt, mod-one, div-one, le_refl}
+use Rattle.std.proofs.Common.{◌≡◌, ℕ, zero, suc, ◌+◌, ◌-◌, ◌*◌, ◌/◌, ◌%◌, ◌^◌, ◌<◌, ◌≤◌, List, [], ◌∷◌, ◌++◌, length, get_or, refl, sym, ap, ◌∙◌, arith, zero-add, length-append, lit<}
+use Rattle.std.specs.Int.{byte_at, bytes_low_first}
+use Rattle.std.specs.List.{flat_map, AllByRecursion}
+use Rattle.std.proofs.Math.Nat.{pow-suc, div-div-eq-div-mul, mod-eq_of_lt, mod-one, div-one, le_refl}
 use Rattle.std.proofs.lemmas.Nat.{mod_below, mod-pow-add, mod_low, shr_high, shr-shr, pow-add, pow_pos, field_of, mul-add-lt, mul-le}
 use Rattle.e57_bits.specs.Bits.{number}
 use Rattle.e57_bits.specs.BitLaws.{number-lt, number-zero, number-split, number-byte_first, number-drop}
@@ -46,6 +47,24 @@ unfolding low_bytes
 low_bytes-lt zero n i = lit< tt
 low_bytes-lt (suc k) n zero = mod_below n 256 (lit< tt)
 low_bytes-lt (suc k) n (suc i) = low_bytes-lt k (n / 256) i
+
+little-from : (i k n : ℕ) → bytes_low_first i k n ≡ low_bytes k (n / 256 ^ i)
+little-from i zero n = sym (low_bytes-zero (n / 256 ^ i))
+little-from i (suc k) n =
+    let next : n / 256 ^ i / 256 ≡ n / 256 ^ suc i = div-div-eq-div-mul n (256 ^ i) 256 ∙ ap (λ m. n / m) (sym (pow-suc 256 i)) in
+    rw (low_bytes-suc k (n / 256 ^ i), next, little-from (suc i) k n, first i) refl
+  where
+    first : (i : ℕ) → byte_at i n ≡ n / 256 ^ i % 256
+    first zero = rw div-one refl
+    first (suc i) = refl
+
+-- std's word for them
+pub little-low_bytes : (k n : ℕ) → bytes_low_first 0 k n ≡ low_bytes k n
+little-low_bytes k n = little-from 0 k n ∙ ap (low_bytes k) (div-one n)
+
+pub little-low_bytes_all : (k : ℕ) (ns : List ℕ) → flat_map (bytes_low_first 0 k) ns ≡ flat_map (low_bytes k) ns
+little-low_bytes_all k [] = refl
+little-low_bytes_all k (n ∷ ns) = rw (little-low_bytes k n, little-low_bytes_all k ns)
 
 -- a number within n % 2 ^ (r + a) is one within n % 2 ^ a
 mod-mod_pow : (n r a : ℕ) → n % 2 ^ (r + a) % 2 ^ a ≡ n % 2 ^ a

@@ -1,12 +1,13 @@
 -- Laws of how groups are put into packets: nothing is lost or turned round, each packet has a stream for each field, and
 -- each is within a packet's limit.
-use Rattle.std.proofs.Common.{◌≡◌, ℕ, zero, suc, ◌+◌, ◌-◌, ◌*◌, ◌^◌, ◌<◌, ◌≤◌, ◌==◌, min, Bool, true, false, cond, List, [], ◌∷◌, ◌++◌, length, take, drop, get_or, Option, Some, None, refl, sym, ap, ◌∙◌, arith, add-zero, length-append, length-take, length-drop, append_assoc, append-nil}
-use Rattle.std.specs.List.{flat_map, AllByRecursion}
-use Rattle.std.proofs.lemmas.Bool.{leb-true, leb-false, eqb-true, eqb-false, cond_both}
+use Rattle.std.proofs.Common.{◌≡◌, ℕ, zero, suc, ◌+◌, ◌-◌, ◌*◌, ◌<◌, ◌≤◌, ◌==◌, min, Bool, true, false, cond, List, [], ◌∷◌, ◌++◌, length, take, drop, get_or, Option, Some, None, refl, sym, ap, ◌∙◌, arith, length-append, length-take, length-drop, append_assoc, append-nil}
+use Rattle.std.specs.List.{AllByRecursion}
+use Rattle.std.proofs.lemmas.Bool.{leb-true, leb-false, eqb-true, cond_both}
 use Rattle.std.proofs.lemmas.List.{take-append-drop}
 use Rattle.std.proofs.lemmas.List.Concat.{flat_map-append}
 use Rattle.e57_layout.specs.Packets.{total, data_size}
 use Rattle.e57_layout.specs.Packing.{join_streams, stream_over, fits_packet, room_for, front, behind, pour, poured, flushed, packets_of}
+use Rattle.e57_layout.specs.Laws.Lists.{all-append}
 use Rattle.e57_layout.specs.Laws.Layouts.{total-cons, data_size_is}
 
 -- n streams that are within one packet
@@ -17,11 +18,6 @@ pub record IsPacket (n : ℕ) (streams : List (List ℕ)) : Type 0 where
 -- a stream for each of n fields
 abbrev pub HasStreams : ℕ → List (List ℕ) → Type 0
 HasStreams n streams = length streams ≡ n
-
--- what holds of each part of two lists holds of each of both
-pub all-append : {X : Type 0} (P : X → Type 0) → (xs ys : List X) → AllByRecursion P xs → AllByRecursion P ys → AllByRecursion P (xs ++ ys)
-all-append P [] ys h g = g
-all-append P (x ∷ xs) ys h g = (h.0, all-append P xs ys h.1 g)
 
 -- ---- streams after streams
 
@@ -150,7 +146,7 @@ poured-some n ss h few large =
 abbrev pub IsRun : ℕ → Option (List (List ℕ)) → Type 0
 IsRun n run = AllByRecursion (IsPacket n) (flushed run)
 
-fits-run : (n : ℕ) (group : List (List ℕ)) → HasStreams n group → fits_packet group ≡ true → IsRun n (Some group)
+pub fits-run : (n : ℕ) (group : List (List ℕ)) → HasStreams n group → fits_packet group ≡ true → IsRun n (Some group)
 fits-run n group h within = (record { count = h; fits = fits-true group within }, tt)
 
 -- the three ways on

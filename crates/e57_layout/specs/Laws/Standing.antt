@@ -1,6 +1,6 @@
 -- Laws of pieces that stand in bytes.
-use Rattle.std.proofs.Common.{◌≡◌, ℕ, zero, suc, ◌+◌, ◌-◌, ◌*◌, ◌^◌, ◌<◌, ◌≤◌, min, List, [], ◌∷◌, ◌++◌, length, take, drop, refl, sym, ap, ◌∙◌, subst, arith, add-zero, length-append, length-take, length-drop}
-use Rattle.std.proofs.lemmas.List.{take-take, take_at, take-append-le, take_all, drop_at, drop-take, drop-drop}
+use Rattle.std.proofs.Common.{◌≡◌, ℕ, ◌+◌, ◌-◌, ◌*◌, ◌^◌, ◌<◌, ◌≤◌, min, List, [], ◌++◌, length, take, drop, refl, sym, ap, ◌∙◌, subst, arith, length-append, length-take, length-drop}
+use Rattle.std.proofs.lemmas.List.{take-take, take_at, drop_at, drop-take, drop-drop}
 use Rattle.std.proofs.Math.Seq.{take-add}
 use Rattle.e57_bits.specs.Bits.{number}
 use Rattle.e57_bits.specs.BitLaws.{number-take, number-drop}

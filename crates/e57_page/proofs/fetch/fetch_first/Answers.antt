@@ -56,6 +56,7 @@ returns g c =
       },
       record {
         within = has_page new c.args.length 0 size (has_first c.args.length c.requires.whole);
+        long = c.read_page.array_long;
         right = right;
         bytes = told_later old.held new.held 0 page read.same.held read.read;
       },

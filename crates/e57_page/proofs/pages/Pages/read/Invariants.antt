@@ -1,4 +1,4 @@
-use Rattle.std.proofs.Common.{◌≡◌, ◌/◌}
+use Rattle.std.proofs.Common.{◌≡◌}
 use Rattle.e57_page.specs.Fetch.{HasRead}
 use Rattle.e57_page.proofs.pages.Pages.read.Given as goal
 
@@ -6,6 +6,5 @@ abbrev pub invariant-loop-n : goal.invariant-loop-n
 invariant-loop-n g l = record {
   size : l.self.length ≡ l.fn.self.length;
   header : l.self.header ≡ l.fn.self.header;
-  kept : l.n ≡ l.at / 1020 → l.self.kept ≡ l.fn.self.kept;
-  read : HasRead (g.S.Source.view l.fn.self.source) l.fn.self.kept l.at l.n l.fn.out l.out (g.S.Source.view l.self.source);
+  read : HasRead (g.S.Source.view l.fn.self.source) l.fn.self.kept l.at l.n l.high l.fn.out l.out (g.S.Source.view l.self.source) l.self.kept;
 }
