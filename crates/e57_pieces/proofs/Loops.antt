@@ -4,8 +4,10 @@ use Rattle.std.specs.Prelude.{encode_utf8}
 use Rattle.std.specs.Char.{digit_value}
 use Rattle.std.proofs.Math.Nat.{mul-le-mul_left, pow-le-pow_right}
 use Rattle.std.proofs.lemmas.List.{append-nil, drop_more, drop_all}
+use Rattle.std.proofs.lemmas.Bool.{ne_eqb}
 use Rattle.e57_pieces.specs.declared.piece.Attr.{Attr}
 use Rattle.e57_pieces.specs.Words.{numeral_from}
+use Rattle.e57_pieces.specs.Laws.References.{no_reference}
 use Rattle.e57_pieces.specs.Reading.{run, after, reference_at, parts_at, attr_at, attrs_at}
 
 -- ---- numbers
@@ -55,6 +57,15 @@ parts_done plain front count i bytes total le so_far =
     let k : count - i ≡ 0 = omega arith in
     let one : with_front front (parts_at plain (count - i) bytes) ≡ (front, bytes) = rw k (ap (λ (x : List ℕ). (x, bytes)) (append-nil front)) in
     sym one ∙ so_far
+
+-- where the text begins with no `&`, no reference is read
+pub none_of_empty : (text : List ℕ) → length text < 1 → None ≡ reference_at text
+none_of_empty [] lt = sym (no_reference [] tt)
+none_of_empty (b ∷ bs) lt = absurd (omega arith)
+
+pub none_of_other : (text : List ℕ) → (get_or text 0 0 ≡ 38 → ⊥) → None ≡ reference_at text
+none_of_other [] other = sym (no_reference [] tt)
+none_of_other (b ∷ bs) other = sym (no_reference (b ∷ bs) (ne_eqb b 38 other))
 
 -- ---- attributes
 

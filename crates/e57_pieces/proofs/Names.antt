@@ -1,5 +1,5 @@
 -- The names of attributes from the last one on, as a set that grows.
-use Rattle.std.proofs.Common.{◌≡◌, ℕ, zero, suc, ◌+◌, ◌<◌, Bool, true, false, cond, eqb, List, [], ◌∷◌, length, drop, Some, refl, sym, ap, ◌∙◌, ◌||◌, ◌&&◌, not, nat_cmp}
+use Rattle.std.proofs.Common.{◌≡◌, ℕ, zero, suc, ◌+◌, ◌<◌, Bool, true, false, cond, eqb, List, [], ◌∷◌, length, drop, Some, refl, sym, ap, ◌∙◌, ◌||◌, ◌&&◌, not, nat_cmp, arith}
 use Rattle.std.specs.List.{list_any, slice_get}
 use Rattle.std.specs.Ordering.{is_eq}
 use Rattle.std.specs.Str.{bytes_eq}
@@ -64,3 +64,9 @@ not_added b false e n = let f : true ≡ false = sym e ∙ n in absurd cc
 pub was_added : (b c : Bool) → b ≡ not c → b ≡ true → c ≡ false
 was_added b false e n = refl
 was_added b true e n = let f : false ≡ true = sym e ∙ n in absurd cc
+
+-- of fewer than two names none is that of another
+pub differ_few : (attrs : List Attr) → length attrs < 2 → true ≡ differ attrs
+differ_few [] lt = refl
+differ_few (a ∷ []) lt = refl
+differ_few (a ∷ b ∷ attrs) lt = absurd (omega arith)

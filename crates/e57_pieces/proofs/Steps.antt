@@ -1,6 +1,7 @@
 -- What a piece or a declaration that is read at the front of the clean part says of the whole text.
 use Rattle.std.proofs.Common.{◌≡◌, ℕ, ◌+◌, ◌-◌, ◌≤◌, true, false, List, ◌++◌, length, take, drop, Some, Result, Ok, Err, MatchResult, inl, inr, refl, sym, ap, subst, ◌∙◌, arith, append_assoc}
 use Rattle.std.specs.Str.{IsUtf8}
+use Rattle.std.specs.Result.{IsErrAnd}
 use denote.Ref.{Bor}
 use Rattle.std.proofs.lemmas.List.{take-append-drop, length-append, length-take-le, take_at, drop_at}
 use Rattle.e57_pieces.specs.declared.piece.Piece.{Piece}
@@ -10,7 +11,7 @@ use Rattle.e57_pieces.specs.Characters.{IsClean, clean_len}
 use Rattle.e57_pieces.specs.Cut.{NoPiece, IsNext}
 use Rattle.e57_pieces.specs.Start.{after_mark, declares, Begins}
 use Rattle.e57_pieces.specs.Reading.{piece_at, declaration_at, IsCleanAt}
-use Rattle.e57_pieces.specs.Gives.{Stops, StopsNext, DeclaredBefore, StopsDeclaration, StopsStart}
+use Rattle.e57_pieces.specs.Gives.{Stops, StopsNext, DeclaredBefore, DeclaredClean, StopsDeclaration, StopsStart}
 use Rattle.e57_pieces.specs.Laws.Characters.{IsUtf8-after, IsClean-clean_len, clean_len_le}
 use Rattle.e57_pieces.specs.Laws.Next.{next_read, none_told, IsUtf8-next}
 use Rattle.e57_pieces.specs.Laws.Start.{declaration_read, declaration_none, IsUtf8-after_mark}
@@ -92,3 +93,15 @@ pub body_from : (r : Result (Bor (List ℕ) × ℕ) Stop) (text : List ℕ) → 
     → MatchResult r (λ x. DeclaredBefore (after_mark text) x.0.now × IsCleanAt x.0.now x.1) (λ stop. StopsDeclaration stop (after_mark text)) → MatchResult r (λ x. Begins text x.0.now × IsCleanAt x.0.now x.1) (λ stop. StopsStart stop text)
 body_from (Ok x) text e h = (begins_declared text x.0.now e h.0, h.1)
 body_from (Err stop) text e h = start_stops stop text e h
+
+-- ---- what `?` hands on
+
+pub next_err : (r : Result (Piece × Bor (List ℕ) × ℕ) Stop) (text : List ℕ) (stop : Stop) → IsErrAnd r (λ e. e ≡ stop) → StopsNext stop text
+    → MatchResult r (λ x. IsNext text x.0 x.1.now × IsCleanAt x.1.now x.2) (λ s. StopsNext s text)
+next_err (Ok x) text stop h is = absurd h
+next_err (Err e) text stop h is = subst (λ s. StopsNext s text) (sym h) is
+
+pub declaration_err : (r : Result (Bor (List ℕ) × ℕ) Stop) (text : List ℕ) (stop : Stop) → IsErrAnd r (λ e. e ≡ stop) → StopsDeclaration stop text
+    → MatchResult r (λ x. DeclaredClean text x.0.now x.1) (λ s. StopsDeclaration s text)
+declaration_err (Ok x) text stop h is = absurd h
+declaration_err (Err e) text stop h is = subst (λ s. StopsDeclaration s text) (sym h) is

@@ -86,6 +86,9 @@ fn attrs(alloc: Global, text: &[u8]) -> Result<(Attrs, &[u8]), AllocError>
 fn differ(alloc: Global, attrs: &Attrs) -> Result<bool, AllocError>
     ensures { IfOk result (λ b. b ≡ names_differ attrs.now) }
 {
+    if attrs.len() < 2 {
+        return Ok(true);
+    }
     let mut names = BTreeSet::new(alloc);
     for i in (0..attrs.len()).rev() {
         if !names.insert(attrs.get(i).name.as_slice())? {

@@ -42,13 +42,9 @@ fn next_of(alloc: Global, text: &[u8], clean: usize) -> Result<(Piece, &[u8], us
     ensures { MatchResult result (λ x. IsNext text.now x.0 x.1.now × IsCleanAt x.1.now x.2) (λ stop. StopsNext stop text.now) }
 {
     let (front, _) = text.split_at(clean);
-    match piece(alloc, front) {
-        Ok((found, rest)) => {
-            let (_, left) = text.split_at(clean - rest.len());
-            Ok((found, left, rest.len()))
-        }
-        Err(stop) => Err(stop),
-    }
+    let (found, rest) = piece(alloc, front)?;
+    let (_, left) = text.split_at(clean - rest.len());
+    Ok((found, left, rest.len()))
 }
 
 /// What follows the declaration of a text, and how many bytes of that are characters.
@@ -57,13 +53,9 @@ fn after_declaration(alloc: Global, text: &[u8], clean: usize) -> Result<(&[u8],
     ensures { MatchResult result (λ x. DeclaredClean text.now x.0.now x.1) (λ stop. StopsDeclaration stop text.now) }
 {
     let (front, _) = text.split_at(clean);
-    match declaration(alloc, front) {
-        Ok(rest) => {
-            let (_, left) = text.split_at(clean - rest.len());
-            Ok((left, rest.len()))
-        }
-        Err(stop) => Err(stop),
-    }
+    let rest = declaration(alloc, front)?;
+    let (_, left) = text.split_at(clean - rest.len());
+    Ok((left, rest.len()))
 }
 
 /// Where the pieces of a text begin, and how many bytes from there on are characters.

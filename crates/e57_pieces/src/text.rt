@@ -86,6 +86,12 @@ fn numbered<'a>(text: &'a [u8], mark: &[u8], class: Class, base: u64) -> Option<
 fn reference(text: &[u8]) -> Option<(char, &[u8])>
     ensures { option_map (λ x. (x.0, x.1.now)) result ≡ reference_at text.now }
 {
+    let [first, ..] = text else {
+        return None;
+    };
+    if *first != b'&' {
+        return None;
+    }
     if let Some(found) = named(text, b"&lt;", '<') {
         return Some(found);
     }

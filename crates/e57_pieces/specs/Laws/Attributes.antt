@@ -5,7 +5,7 @@ use Rattle.std.proofs.lemmas.Bool.{eqb-true, eq-eqb}
 use Rattle.std.proofs.lemmas.List.{length-append}
 use Rattle.e57_pieces.specs.declared.piece.Attr.{Attr}
 use Rattle.e57_pieces.specs.Laws.Characters.{or_true, false_from, not_both}
-use Rattle.e57_pieces.specs.Laws.Fronts.{Took, bind_some, given_some, strip_took, strip_again, Stops, run_after, run_each, run_again, space_took, space_again, no_space, name_took, name_again, no_name}
+use Rattle.e57_pieces.specs.Laws.Fronts.{Took, bind_some, given_some, strip_took, strip_again, BeginsOutside, run_after, run_each, run_again, space_took, space_again, no_space, name_took, name_again, no_name}
 use Rattle.e57_pieces.specs.Laws.References.{NoPart, text_took, text_again, no_reference}
 use Rattle.e57_pieces.specs.Words.{is_space, begins_name, goes_on_name, is_plain, Each, IsName}
 use Rattle.e57_pieces.specs.Grammar.{Means, IsAttr, AreAttrs, differ, IsInside}
@@ -40,11 +40,11 @@ space_goes_on_none b e = spaces (λ n. goes_on_name n ≡ false) b e refl refl r
 pub name_no_space : (b : ℕ) → begins_name b ≡ true → is_space b ≡ false
 name_no_space b e = false_from (is_space b) (λ s. not_both (begins_name b) e (space_begins_none b s))
 
-pub name_stops_space : (name rest : List ℕ) → IsName name → Stops is_space (name ++ rest)
+pub name_stops_space : (name rest : List ℕ) → IsName name → BeginsOutside is_space (name ++ rest)
 name_stops_space [] rest is = absurd is
 name_stops_space (b ∷ bs) rest is = name_no_space b is.0
 
-pub space_stops_name : (space rest : List ℕ) → Each is_space space → Stops goes_on_name rest → Stops goes_on_name (space ++ rest)
+pub space_stops_name : (space rest : List ℕ) → Each is_space space → BeginsOutside goes_on_name rest → BeginsOutside goes_on_name (space ++ rest)
 space_stops_name [] rest each stops = stops
 space_stops_name (b ∷ bs) rest each stops = space_goes_on_none b each.0
 
@@ -241,7 +241,7 @@ inside_took text x close rest e f =
       gathered : (text front left space end_on close rest : List ℕ) → text ≡ front ++ left → left ≡ space ++ end_on → end_on ≡ close ++ rest → text ≡ (front ++ (space ++ close)) ++ rest
       gathered text front left space end_on close rest a b c = a ∙ ap (λ (t : List ℕ). front ++ t) (b ∙ ap (λ (t : List ℕ). space ++ t) c) ∙ sym (append_assoc front (space ++ close) rest ∙ ap (λ (t : List ℕ). front ++ t) (append_assoc space close rest))
 
-no_attr : (space rest : List ℕ) → Each is_space space → Stops is_space rest → Stops begins_name rest → attr_at (space ++ rest) ≡ None
+no_attr : (space rest : List ℕ) → Each is_space space → BeginsOutside is_space rest → BeginsOutside begins_name rest → attr_at (space ++ rest) ≡ None
 unfolding attr_at
 no_attr [] rest each stops ends = rw (no_space rest stops) refl
 no_attr (b ∷ bs) rest each stops ends =
@@ -252,7 +252,7 @@ inside_steps : (text space_on rest : List ℕ) (attrs : List Attr) → attrs_at 
 unfolding inside_at
 inside_steps text space_on rest attrs a b c = rw (a, b, c) refl
 
-pub inside_again : (s : List ℕ) (attrs : List Attr) (close rest : List ℕ) → IsInside s attrs close → Stops is_space (close ++ rest) → Stops begins_name (close ++ rest) → inside_at (s ++ rest) ≡ Some (attrs, close ++ rest)
+pub inside_again : (s : List ℕ) (attrs : List Attr) (close rest : List ℕ) → IsInside s attrs close → BeginsOutside is_space (close ++ rest) → BeginsOutside begins_name (close ++ rest) → inside_at (s ++ rest) ≡ Some (attrs, close ++ rest)
 inside_again s attrs close rest is stops ends =
     let whole : s ++ rest ≡ is.front ++ (is.space ++ (close ++ rest)) = ap (λ (t : List ℕ). t ++ rest) is.spelled ∙ append_assoc is.front (is.space ++ close) rest ∙ ap (λ (t : List ℕ). is.front ++ t) (append_assoc is.space close rest) in
     let long : length attrs ≤ length (is.front ++ (is.space ++ (close ++ rest))) = omega (arith, attrs_long is.front attrs is.attributes, length-append is.front (is.space ++ (close ++ rest))) in

@@ -61,9 +61,9 @@ strip_again (p ∷ ps) rest = rw (eq-eqb p p refl) (strip_again ps rest)
 -- ---- a class
 
 -- the bytes don't begin in the class
-abbrev pub Stops : (ℕ → Bool) → List ℕ → Type 0
-Stops p [] = Unit {0}
-Stops p (b ∷ bs) = p b ≡ false
+abbrev pub BeginsOutside : (ℕ → Bool) → List ℕ → Type 0
+BeginsOutside p [] = Unit {0}
+BeginsOutside p (b ∷ bs) = p b ≡ false
 
 pub run_after : (p : ℕ → Bool) (bytes : List ℕ) → bytes ≡ run p bytes ++ after p bytes
 unfolding run after
@@ -83,7 +83,7 @@ run_each p (b ∷ bs) =
       | inr fails ↦ rw fails tt
     ]
 
-pub after_stops : (p : ℕ → Bool) (bytes : List ℕ) → Stops p (after p bytes)
+pub after_stops : (p : ℕ → Bool) (bytes : List ℕ) → BeginsOutside p (after p bytes)
 unfolding after
 after_stops p [] = tt
 after_stops p (b ∷ bs) =
@@ -92,12 +92,12 @@ after_stops p (b ∷ bs) =
       | inr fails ↦ rw fails fails
     ]
 
-pub run_stops : (p : ℕ → Bool) (rest : List ℕ) → Stops p rest → (run p rest ≡ []) × (after p rest ≡ rest)
+pub run_stops : (p : ℕ → Bool) (rest : List ℕ) → BeginsOutside p rest → (run p rest ≡ []) × (after p rest ≡ rest)
 unfolding run after
 run_stops p [] stops = (refl, refl)
 run_stops p (b ∷ bs) stops = (rw stops refl, rw stops refl)
 
-pub run_again : (p : ℕ → Bool) (front rest : List ℕ) → Each p front → Stops p rest → (run p (front ++ rest) ≡ front) × (after p (front ++ rest) ≡ rest)
+pub run_again : (p : ℕ → Bool) (front rest : List ℕ) → Each p front → BeginsOutside p rest → (run p (front ++ rest) ≡ front) × (after p (front ++ rest) ≡ rest)
 unfolding run after
 run_again p [] rest each stops = run_stops p rest stops
 run_again p (b ∷ bs) rest each stops =
@@ -113,12 +113,12 @@ space_took (b ∷ bs) rest e =
     let g = given_some (is_space b) (after is_space bs) rest e in
     record { spelling = b ∷ run is_space bs; holds = (omega arith, (g.0, run_each is_space bs)); parts = ap (λ (t : List ℕ). b ∷ t) (run_after is_space bs ∙ ap (λ (t : List ℕ). run is_space bs ++ t) g.1) }
 
-pub space_again : (space rest : List ℕ) → 0 < length space → Each is_space space → Stops is_space rest → space_at (space ++ rest) ≡ Some rest
+pub space_again : (space rest : List ℕ) → 0 < length space → Each is_space space → BeginsOutside is_space rest → space_at (space ++ rest) ≡ Some rest
 unfolding space_at
 space_again [] rest some each stops = absurd (omega arith)
 space_again (b ∷ bs) rest some each stops = rw (each.0, (run_again is_space bs rest each.1 stops).1) refl
 
-pub no_space : (rest : List ℕ) → Stops is_space rest → space_at rest ≡ None
+pub no_space : (rest : List ℕ) → BeginsOutside is_space rest → space_at rest ≡ None
 unfolding space_at
 no_space [] stops = refl
 no_space (b ∷ bs) stops = rw stops refl
@@ -130,14 +130,14 @@ name_took (b ∷ bs) x e =
     let g = given_some (begins_name b) (b ∷ run goes_on_name bs, after goes_on_name bs) x e in
     subst (λ (y : List ℕ × List ℕ). IsName y.0 × (b ∷ bs ≡ y.0 ++ y.1)) g.1 ((g.0, run_each goes_on_name bs), ap (λ (t : List ℕ). b ∷ t) (run_after goes_on_name bs))
 
-pub name_again : (name rest : List ℕ) → IsName name → Stops goes_on_name rest → name_at (name ++ rest) ≡ Some (name, rest)
+pub name_again : (name rest : List ℕ) → IsName name → BeginsOutside goes_on_name rest → name_at (name ++ rest) ≡ Some (name, rest)
 unfolding name_at
 name_again [] rest is stops = absurd is
 name_again (b ∷ bs) rest is stops =
     let more = run_again goes_on_name bs rest is.1 stops in
     rw (is.0, more.0, more.1) refl
 
-pub no_name : (rest : List ℕ) → Stops begins_name rest → name_at rest ≡ None
+pub no_name : (rest : List ℕ) → BeginsOutside begins_name rest → name_at rest ≡ None
 unfolding name_at
 no_name [] stops = refl
 no_name (b ∷ bs) stops = rw stops refl

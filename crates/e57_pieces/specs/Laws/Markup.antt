@@ -9,7 +9,7 @@ use Rattle.e57_pieces.specs.declared.piece.Attr.{Attr}
 use Rattle.e57_pieces.specs.declared.piece.Piece.{Piece}
 use Rattle.e57_pieces.specs.declared.piece.Piece.TheVariants.{Start, Empty, End, Comment, CData, Text}
 use Rattle.e57_pieces.specs.Laws.Characters.{false_from, not_both, eqb-from_ne}
-use Rattle.e57_pieces.specs.Laws.Fronts.{bind_some, given_some, map_some, or_some, or_none, some_none, strip_took, strip_again, Stops, run_after, run_each, run_again, name_took, name_again, cut_took, cut_first, cut_again}
+use Rattle.e57_pieces.specs.Laws.Fronts.{bind_some, given_some, map_some, or_some, or_none, some_none, strip_took, strip_again, BeginsOutside, run_after, run_each, run_again, name_took, name_again, cut_took, cut_first, cut_again}
 use Rattle.e57_pieces.specs.Laws.References.{NoPart, text_took, text_ends, text_again, parts_none, no_reference, reference_again, reference_begins}
 use Rattle.e57_pieces.specs.Laws.Attributes.{space_goes_on_none, space_stops_name, inside_took, inside_again}
 use Rattle.e57_pieces.specs.Words.{is_space, begins_name, goes_on_name, is_plain, Each, Absent}
@@ -201,24 +201,24 @@ attr_begins s attr is = begins_so is.before s (attr.name ++ (is.left ++ (codes "
   begins_so (b ∷ bs) s more some each e = (b, bs ++ more, each.0, e)
 
 -- a name ends before the inside of a tag
-inside_stops : (attrs : List Attr) (front space close rest : List ℕ) → AreAttrs front attrs → Each is_space space → Stops goes_on_name (close ++ rest) → Stops goes_on_name ((front ++ (space ++ close)) ++ rest)
+inside_stops : (attrs : List Attr) (front space close rest : List ℕ) → AreAttrs front attrs → Each is_space space → BeginsOutside goes_on_name (close ++ rest) → BeginsOutside goes_on_name ((front ++ (space ++ close)) ++ rest)
 inside_stops [] front space close rest are white stops =
-    subst (λ (t : List ℕ). Stops goes_on_name ((t ++ (space ++ close)) ++ rest)) (sym are) (subst (λ (t : List ℕ). Stops goes_on_name t) (sym (append_assoc space close rest)) (space_stops_name space (close ++ rest) white stops))
+    subst (λ (t : List ℕ). BeginsOutside goes_on_name ((t ++ (space ++ close)) ++ rest)) (sym are) (subst (λ (t : List ℕ). BeginsOutside goes_on_name t) (sym (append_assoc space close rest)) (space_stops_name space (close ++ rest) white stops))
 inside_stops (attr ∷ attrs) front space close rest are white stops =
     let b = attr_begins are.0 attr are.3 in
     let whole : front ≡ b.0 ∷ (b.1 ++ are.1) = are.2 ∙ ap (λ (t : List ℕ). t ++ are.1) b.3 in
-    subst (λ (t : List ℕ). Stops goes_on_name ((t ++ (space ++ close)) ++ rest)) (sym whole) (space_goes_on_none b.0 b.2)
+    subst (λ (t : List ℕ). BeginsOutside goes_on_name ((t ++ (space ++ close)) ++ rest)) (sym whole) (space_goes_on_none b.0 b.2)
 
 tag_steps : (text start name left_on close_on : List ℕ) (attrs : List Attr) → strip (codes "<") text ≡ Some start → name_at start ≡ Some (name, left_on) → inside_at left_on ≡ Some (attrs, close_on)
     → tag_at text ≡ option_or (option_map (λ (rest : List ℕ). (Start name attrs, rest)) (strip (codes ">") close_on)) (option_map (λ (rest : List ℕ). (Empty name attrs, rest)) (strip (codes "/>") close_on))
 unfolding tag_at
 tag_steps text start name left_on close_on attrs a b c = rw (a, b, c) refl
 
-tag_again : (s name : List ℕ) (attrs : List Attr) (close rest : List ℕ) → IsTag s name attrs close → Stops goes_on_name (close ++ rest) → Stops is_space (close ++ rest) → Stops begins_name (close ++ rest)
+tag_again : (s name : List ℕ) (attrs : List Attr) (close rest : List ℕ) → IsTag s name attrs close → BeginsOutside goes_on_name (close ++ rest) → BeginsOutside is_space (close ++ rest) → BeginsOutside begins_name (close ++ rest)
     → tag_at (s ++ rest) ≡ option_or (option_map (λ (more : List ℕ). (Start name attrs, more)) (strip (codes ">") (close ++ rest))) (option_map (λ (more : List ℕ). (Empty name attrs, more)) (strip (codes "/>") (close ++ rest)))
 tag_again s name attrs close rest is goes_on white begins =
     let inner = is.is_inside in
-    let stops : Stops goes_on_name (is.inside ++ rest) = subst (λ (t : List ℕ). Stops goes_on_name (t ++ rest)) (sym inner.spelled) (inside_stops attrs inner.front inner.space close rest inner.attributes inner.white goes_on) in
+    let stops : BeginsOutside goes_on_name (is.inside ++ rest) = subst (λ (t : List ℕ). BeginsOutside goes_on_name (t ++ rest)) (sym inner.spelled) (inside_stops attrs inner.front inner.space close rest inner.attributes inner.white goes_on) in
     let whole : s ++ rest ≡ codes "<" ++ (name ++ (is.inside ++ rest)) = ap (λ (t : List ℕ). t ++ rest) is.spelled ∙ ap (λ (t : List ℕ). 60 ∷ t) (append_assoc name is.inside rest) in
     ap tag_at whole ∙ tag_steps (codes "<" ++ (name ++ (is.inside ++ rest))) (name ++ (is.inside ++ rest)) name (is.inside ++ rest) (close ++ rest) attrs
     (strip_again (codes "<") (name ++ (is.inside ++ rest))) (name_again name (is.inside ++ rest) is.is_name stops) (inside_again is.inside attrs close rest inner white begins)

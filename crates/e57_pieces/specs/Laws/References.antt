@@ -6,7 +6,7 @@ use Rattle.std.specs.Option.{option_or}
 use Rattle.std.proofs.lemmas.Bool.{leb-true, le-leb}
 use Rattle.std.proofs.lemmas.List.{length-append, append-nil}
 use Rattle.e57_pieces.specs.Laws.Characters.{and_true, both_true}
-use Rattle.e57_pieces.specs.Laws.Fronts.{Took, bind_some, given_some, map_some, or_some, strip_took, strip_again, Stops, run_after, run_each, after_stops, run_stops, run_again}
+use Rattle.e57_pieces.specs.Laws.Fronts.{Took, bind_some, given_some, map_some, or_some, strip_took, strip_again, BeginsOutside, run_after, run_each, after_stops, run_stops, run_again}
 use Rattle.e57_pieces.specs.Characters.{is_character}
 use Rattle.e57_pieces.specs.Words.{is_decimal, is_hexadecimal, is_plain, Each, numeral, max_digits}
 use Rattle.e57_pieces.specs.Grammar.{IsNamed, IsNumbered, IsReference, IsPart, Means}
@@ -154,7 +154,7 @@ reference_begins s c (inl (inr (inr (inr (inr is))))) = (_, is.0)
 reference_begins s c (inr (inl is)) = (_, is.spelled)
 reference_begins s c (inr (inr is)) = (_, is.spelled)
 
-pub no_reference : (text : List ℕ) → Stops (λ b. eqb b 38) text → reference_at text ≡ None
+pub no_reference : (text : List ℕ) → BeginsOutside (λ b. eqb b 38) text → reference_at text ≡ None
 unfolding reference_at numbered_at strip
 no_reference [] stops = refl
 no_reference (b ∷ bs) stops = rw stops refl
@@ -163,7 +163,7 @@ no_reference (b ∷ bs) stops = rw stops refl
 
 -- no part begins here
 pub record NoPart (plain : ℕ → Bool) (text : List ℕ) : Type 0 where
-  pub stops : Stops plain text
+  pub stops : BeginsOutside plain text
   pub none : reference_at text ≡ None
 
 all_append : (P : List ℕ × List ℕ → Type 0) (xs ys : List (List ℕ × List ℕ)) → AllByRecursion P xs → AllByRecursion P ys → AllByRecursion P (xs ++ ys)
@@ -213,7 +213,7 @@ unfolding parts_at
 parts_took plain zero bytes = record { spelling = []; holds = Means-nil plain; parts = refl }
 parts_took plain (suc n) bytes = then_took plain (λ (rest : List ℕ). parts_at plain n rest) (reference_at (after plain bytes)) bytes (run plain bytes) (after plain bytes) (run_after plain bytes) (run_each plain bytes) refl (λ text. parts_took plain n text)
 
-then_ends : (plain : ℕ → Bool) (goes_on : List ℕ → List ℕ × List ℕ) (o : Option (ℕ × List ℕ)) (bytes front rest : List ℕ) (n : ℕ) → bytes ≡ front ++ rest → Stops plain rest → reference_at rest ≡ o → length bytes ≤ suc n
+then_ends : (plain : ℕ → Bool) (goes_on : List ℕ → List ℕ × List ℕ) (o : Option (ℕ × List ℕ)) (bytes front rest : List ℕ) (n : ℕ) → bytes ≡ front ++ rest → BeginsOutside plain rest → reference_at rest ≡ o → length bytes ≤ suc n
     → ((text : List ℕ) → length text ≤ n → NoPart plain (goes_on text).1) → NoPart plain (parts_then front rest goes_on o).1
 then_ends plain goes_on None bytes front rest n e stops found le more = record { stops = stops; none = found }
 then_ends plain goes_on (Some x) bytes front rest n e stops found le more =
@@ -251,7 +251,7 @@ reference_more : (plain : ℕ → Bool) (n c : ℕ) (s rest : List ℕ) → plai
 unfolding parts_at
 reference_more plain n c s rest apart is =
     let begins = reference_begins s c is in
-    let stops : Stops plain (s ++ rest) = subst (λ (t : List ℕ). Stops plain (t ++ rest)) (sym begins.1) apart in
+    let stops : BeginsOutside plain (s ++ rest) = subst (λ (t : List ℕ). BeginsOutside plain (t ++ rest)) (sym begins.1) apart in
     let e = run_stops plain (s ++ rest) stops in
     let found : reference_at (s ++ rest) ≡ Some (c, rest) = reference_again s c rest is in
     rw (e.0, e.1, found) refl
