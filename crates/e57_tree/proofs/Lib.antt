@@ -6,3 +6,4 @@ mod Children
 mod Noted
 mod Rows
 mod Judged
+mod Adding

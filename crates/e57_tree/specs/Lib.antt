@@ -2,4 +2,5 @@ pub mod Numbers
 pub mod Flat
 pub mod Names
 pub mod Judged
+pub mod Paths
 pub mod Laws

@@ -2,9 +2,11 @@
 #![tactic(auto)]
 
 mod attributes;
+mod fields;
 mod judge;
 mod names;
 mod nodes;
 mod numbers;
+mod places;
 mod rules;
 mod vectors;
