@@ -7,3 +7,4 @@ mod Noted
 mod Rows
 mod Judged
 mod Adding
+mod Copied

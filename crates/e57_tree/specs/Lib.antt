@@ -3,4 +3,5 @@ pub mod Flat
 pub mod Names
 pub mod Judged
 pub mod Paths
+pub mod Copies
 pub mod Laws

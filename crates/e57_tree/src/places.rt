@@ -1,11 +1,10 @@
 //! Other places in a tree.
 
-ghost use Rattle.std.specs.Prelude.{◌≡◌, ◌<◌, ◌≤◌, ◌++◌, drop, length, map, IfOk, OnOk};
+ghost use Rattle.std.specs.Prelude.{◌≡◌, ◌+◌, ◌≤◌, ◌||◌, drop, length, map, IfOk};
 ghost use Rattle.std.specs.Fmt.{decimal};
-ghost use Rattle.e57_elements.specs.Lawful.{AreNodes};
-ghost use Rattle.e57_nodes.specs.Places.{has_section, place_name, with_value};
-ghost use Rattle.e57_nodes.specs.Facts.{type_in};
-ghost use Rattle.e57_nodes.specs.Laws.Places.{item_count, placed_nodes};
+ghost use Rattle.e57_nodes.specs.Places.{place_name, with_value};
+ghost use Rattle.e57_nodes.specs.Laws.Places.{item_count, placed_node, placed_nodes};
+ghost use Rattle.e57_tree.specs.Copies.{is_place, next_attr, section_count};
 
 use crate::attributes::element_type;
 use crate::vectors::has_section;
@@ -21,18 +20,31 @@ pub fn with_places(alloc: Global, raw: &RawTree, places: &[u64]) -> Result<RawTr
     ensures { IfOk result (λ new. new ≡ placed_nodes (map decimal places.now) raw.now) }
 {
     let mut nodes = Vec::with_capacity(alloc, raw.len())?;
-    let mut left = places;
+    let mut used = 0;
     for n in 0..raw.len() {
         let node = raw.node(n);
-        if has_section(element_type(&node.attrs)) {
-            let (place, later) = left.split_at(1);
-            nodes.push(placed(alloc, node, place[0])?)?;
-            left = later;
-        } else {
-            nodes.push(copied(alloc, node)?)?;
-        }
+        nodes.push(next_node(alloc, node, places, used)?)?;
+        used += section_count(node);
     }
     Ok(RawTree::new(nodes))
+}
+
+/// How many sections a node has.
+fn section_count(node: &RawNode) -> usize
+    ensures { result ≡ section_count node.now }
+{
+    if has_section(element_type(&node.attrs)) { 1 } else { 0 }
+}
+
+/// A copy of a node, of a cloud or blob with the first place that isn't used yet.
+fn next_node(alloc: Global, node: &RawNode, places: &[u64], used: usize) -> Result<RawNode, AllocError>
+    requires { used + section_count node.now ≤ length places.now }
+    ensures { IfOk result (λ new. new ≡ placed_node (drop used (map decimal places.now)) node.now) }
+{
+    if has_section(element_type(&node.attrs)) {
+        return placed(alloc, node, places[used]);
+    }
+    copied(alloc, node)
 }
 
 /// A copy of a node.
@@ -91,15 +103,24 @@ fn with_place(alloc: Global, attrs: &Attrs, place: u64) -> Result<Attrs, AllocEr
     let mut new = Attrs::new(alloc);
     let mut is_set = false;
     for i in 0..attrs.len() {
-        let attr = attrs.get(i);
-        if !is_set && attr.name.as_slice() == b"fileOffset".as_slice() {
-            is_set = true;
-            new.push(valued_attr(alloc, attr, place)?)?;
-        } else {
-            new.push(copied_attr(alloc, attr)?)?;
-        }
+        new.push(next_attr(alloc, attrs.get(i), place, &mut is_set)?)?;
     }
     Ok(new)
+}
+
+/// A copy of an attribute; of the first `fileOffset` with this place in decimal.
+fn next_attr(alloc: Global, attr: &Attr, place: u64, is_set: &mut bool) -> Result<Attr, AllocError>
+    ensures copy { IfOk result (λ new. new ≡ next_attr is_set.old (decimal place) attr.now) }
+    ensures set { is_set.new ≡ (is_set.old || is_place attr.now) }
+{
+    if *is_set {
+        return copied_attr(alloc, attr);
+    }
+    if attr.name.as_slice() == b"fileOffset".as_slice() {
+        *is_set = true;
+        return valued_attr(alloc, attr, place);
+    }
+    copied_attr(alloc, attr)
 }
 
 /// A copy of an attribute with a number in decimal as its value.
