@@ -8,3 +8,4 @@ mod Rows
 mod Judged
 mod Adding
 mod Copied
+mod Finding

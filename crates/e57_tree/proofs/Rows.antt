@@ -72,10 +72,10 @@ below_in_row nodes n end h = by_number (end - n) nodes n end (le_refl (end - n))
 
 -- ---- a search among them
 
-row_first : (nodes : List RawNode) (n end : ℕ) → n < end → row nodes n (end - n) ≡ node_in nodes n ∷ row nodes (n + 1) (end - (n + 1))
+pub row_first : (nodes : List RawNode) (n end : ℕ) → n < end → row nodes n (end - n) ≡ node_in nodes n ∷ row nodes (n + 1) (end - (n + 1))
 row_first nodes n end l = let one : end - n ≡ suc (end - (n + 1)) = omega arith in ap (row nodes n) one
 
-row_none : (nodes : List RawNode) (n end : ℕ) → end ≤ n → row nodes n (end - n) ≡ []
+pub row_none : (nodes : List RawNode) (n end : ℕ) → end ≤ n → row nodes n (end - n) ≡ []
 row_none nodes n end l = let nothing : end - n ≡ zero = omega arith in ap (row nodes n) nothing
 
 pub search_here : (p : Node → Bool) (nodes : List RawNode) (n end : ℕ) → n < end → p (node_in nodes n) ≡ true → find p (row nodes n (end - n)) ≡ Some (node_in nodes n)

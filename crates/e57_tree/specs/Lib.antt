@@ -4,4 +4,5 @@ pub mod Names
 pub mod Judged
 pub mod Paths
 pub mod Copies
+pub mod Held
 pub mod Laws

@@ -3,6 +3,8 @@
 
 mod attributes;
 mod fields;
+mod found;
+mod items;
 mod judge;
 mod names;
 mod nodes;
