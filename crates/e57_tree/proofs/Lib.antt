@@ -9,3 +9,4 @@ mod Judged
 mod Adding
 mod Copied
 mod Finding
+mod Leading

@@ -77,9 +77,12 @@ pub record IsTree (nodes : List RawNode) (found : Found) : Type 0 where
 abbrev pub place_at : List RawNode → ℕ → ℕ
 place_at nodes n = unwrap_or (option_and_then unsigned_in (value_of place_name (raw_at nodes n).attrs)) 0
 
+abbrev pub cloud_at : List RawNode → ℕ → Cloud
+cloud_at nodes n = record { node = n; place = place_at nodes n; count = unwrap_or (facts_in (raw_at nodes n)).record_count 0 }
+
 -- The cloud at the node is added.
 pub record AddsCloud (nodes : List RawNode) (n : ℕ) (old new : Found) : Type 0 where
-  pub clouds : new.clouds.items ≡ old.clouds.items ++ (record { node = n; place = place_at nodes n; count = unwrap_or (facts_in (raw_at nodes n)).record_count 0 }) ∷ []
+  pub clouds : new.clouds.items ≡ old.clouds.items ++ cloud_at nodes n ∷ []
   pub blobs : new.blobs.items ≡ old.blobs.items
   pub items : new.items.items ≡ old.items.items ++ item.Cloud (length old.clouds.items) ∷ []
   pub fields : new.fields.items ≡ old.fields.items ++ fields_of (node_in nodes n) ∷ []
