@@ -10,3 +10,4 @@ mod Adding
 mod Copied
 mod Finding
 mod Leading
+mod Whole

@@ -15,6 +15,7 @@ pub fn path_of(alloc: Global, raw: &RawTree, wanted: usize) -> Result<Octets, Al
     requires { wanted < length raw.now }
     ensures { IfOk result (λ path. path ≡ path_in raw.now 0 [] wanted) }
 {
+    let _count = raw.len();
     let mut path = Vec::new(alloc);
     let mut n = 0;
     while n < wanted {

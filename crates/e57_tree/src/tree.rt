@@ -1,25 +1,28 @@
 //! The tree of typed elements.
 
-ghost use Rattle.std.specs.Prelude.{◌≡◌, ◌<◌, length, map, slice_get, IfOk, None, Some};
+ghost use Rattle.std.specs.Prelude.{◌≡◌, ◌<◌, ◌≤◌, length, map, slice_get, IfOk, None, Some};
 ghost use Rattle.std.specs.Fmt.{decimal};
-ghost use Rattle.std.specs.List.{AllByRecursion};
-ghost use Rattle.e57_elements.specs.Lawful.{AreNodes, IsLawful};
+ghost use Rattle.e57_elements.specs.Lawful.{AreNodes};
 ghost use Rattle.e57_elements.specs.Tree.{Element, preorder};
-ghost use Rattle.e57_layout.specs.Values.{IsValidField};
+ghost use Rattle.e57_layout.specs.Values.{item_kind};
 ghost use Rattle.e57_nodes.specs.Shape.{shape_of};
-ghost use Rattle.e57_nodes.specs.Places.{places_in, with_places};
-ghost use Rattle.e57_nodes.specs.Typed.{typed_fault};
+ghost use Rattle.e57_nodes.specs.Paths.{path_of};
+ghost use Rattle.e57_nodes.specs.Places.{with_places};
+ghost use Rattle.e57_nodes.specs.Items.{leaves_of};
+ghost use Rattle.e57_sections.specs.Cloud.{float_from};
+ghost use Rattle.e57_nodes.specs.Typed.{max_fields, typed_fault};
 ghost use Rattle.e57_tree.specs.Judged.{IsJudged};
-ghost use Rattle.e57_tree.specs.Held.{blobs_of, clouds_of, cloud_fields, items_of};
+ghost use Rattle.e57_tree.specs.Held.{blobs_of, cloud_fields, clouds_of, float_bytes, items_of, AreCloudFields, IsFixed};
 
 use crate::fields::Fields;
 use crate::found::Found;
 use crate::items::{Blob, Cloud, Item};
 use crate::judge::judge;
+use crate::path::path_of;
 use crate::places::with_places;
-use e57_base::TextFault;
+use e57_base::{Octets, TextFault};
 use e57_elements::RawTree;
-use e57_layout::{Field, Fixed};
+use e57_layout::{Field, FieldKind, Fixed};
 use std::alloc::{AllocError, Global};
 use std::marker::Model;
 
@@ -87,5 +90,68 @@ impl Tree {
         ensures { (e : Element) → self.now ≡ preorder e → result.now ≡ items_of e }
     {
         &self.found.items
+    }
+
+    /// The fields of cloud k, 1 to 512 of them, which are valid.
+    pub fn fields(&self, k: usize) -> &[Field]
+        requires { (e : Element) → self.now ≡ preorder e → k < length (clouds_of e) }
+        ensures fields { (e : Element) → self.now ≡ preorder e → slice_get (cloud_fields e) k ≡ Some result.now }
+        ensures valid { AreCloudFields result.now }
+    {
+        self.found.fields[k].as_slice()
+    }
+
+    /// The first Float field of cloud k, with the bytes of an item.
+    pub fn fixed(&self, k: usize) -> Option<Fixed>
+        requires { (e : Element) → self.now ≡ preorder e → k < length (clouds_of e) }
+        ensures { (e : Element) → self.now ≡ preorder e → IsFixed (cloud_fields e) k result }
+    {
+        fixed_of(self.fields(k))
+    }
+
+    /// The path of the node with this number.
+    pub fn path(&self, alloc: Global, node: u32) -> Result<Octets, AllocError>
+        requires { node < length self.now }
+        ensures { (e : Element) → self.now ≡ preorder e → IfOk result (λ path. path ≡ path_of (shape_of e) node) }
+    {
+        path_of(alloc, &self.raw, node as usize)
+    }
+
+    /// The elements with these physical offsets as the places of clouds and blobs, one for each item: each `fileOffset` is
+    /// its number in decimal.
+    pub fn with_places(&self, alloc: Global, places: &[u64]) -> Result<RawTree, AllocError>
+        requires { (e : Element) → self.now ≡ preorder e → length places.now ≡ length (items_of e) }
+        ensures { (e : Element) → self.now ≡ preorder e → IfOk result (λ new. new ≡ preorder (with_places (map decimal places.now) e)) }
+    {
+        with_places(alloc, &self.raw, places)
+    }
+}
+
+/// The first Float field, with the bytes of an item.
+#[tactic(auto, unfolding(e57_sections::specs::Cloud::float_from))]
+fn fixed_of(fields: &[Field]) -> Option<Fixed>
+    requires { length fields.now ≤ max_fields }
+    ensures { result ≡ float_from 0 (leaves_of fields.now) }
+{
+    for (i, field) in fields.iter().enumerate() {
+        let bytes = float_bytes(&field.kind);
+        if bytes > 0 {
+            return Some(Fixed {
+                field: i as u16,
+                bytes,
+            });
+        }
+    }
+    None
+}
+
+/// How many bytes an item of a Float has, and 0 of another field.
+fn float_bytes(kind: &FieldKind) -> u8
+    ensures { result ≡ float_bytes (item_kind kind.now) }
+{
+    match kind {
+        FieldKind::Bits32 => 4,
+        FieldKind::Bits64 => 8,
+        FieldKind::Int { .. } | FieldKind::Scaled { .. } | FieldKind::Text => 0,
     }
 }
