@@ -1,6 +1,6 @@
 -- Cases that compute: numbers in texts, the trees of two small files, and the first fault of a tree for each kind of fault of a node.
 use Rattle.std.proofs.Common.{◌≡◌, ℕ, List, [], ◌∷◌, Option, Some, None, refl}
-use Rattle.std.specs.Prelude.{ℤ, pos, negsuc, codes, map}
+use Rattle.std.specs.Prelude.{pos, negsuc, codes, map}
 use Rattle.std.specs.Fmt.{digits}
 use Rattle.e57_base.specs.declared.fault.Fault.{Fault}
 use Rattle.e57_base.specs.declared.kind.Kind.TheVariants as kind
@@ -8,7 +8,6 @@ use Rattle.e57_base.specs.Fault.{fault}
 use Rattle.e57_pieces.specs.declared.piece.Attr.{Attr}
 use Rattle.e57_pieces.specs.Words.{is_space, is_decimal, numeral_from}
 use Rattle.e57_elements.specs.Tree.{Element, element, Elements, none, more}
-use Rattle.e57_layout.specs.declared.field.Field.{Field}
 use Rattle.e57_layout.specs.declared.field.FieldKind.TheVariants.{Int, Scaled, Bits32, Bits64, Text}
 use Rattle.e57_layout.specs.Widths.{bit_length, width}
 use Rattle.e57_nodes.specs.Facts.{without_space, trimmed, when_below, digits_below, signed_from, unsigned_from, signed_in, unsigned_in, is_integer_text, value_of, type_named, precision_named, type_in, facts_of}
@@ -17,7 +16,7 @@ use Rattle.e57_nodes.specs.Paths.{path_of}
 use Rattle.e57_nodes.specs.Places.{stated_place, places_in, with_value, with_places, without_places}
 use Rattle.e57_nodes.specs.Fields.{child_named, fields_of}
 use Rattle.e57_nodes.specs.Typed.{type_fault, name_fault, child_fault, attr_fault, limits_fault, compressed_vector_fault, node_fault, typed_fault}
-use Rattle.e57_nodes.specs.Items.{StatedItem, stated_cloud, stated_blob, stated_item, stated_items}
+use Rattle.e57_nodes.specs.Items.{stated_cloud, stated_item, stated_items}
 
 -- ---- numbers in texts
 
@@ -33,8 +32,8 @@ signed_cases : map signed_in (
     ∷ codes "- 5"
     ∷ codes "-"
     ∷ [] ∷ []
-  )
-  ≡ Some (negsuc 9223372036854775807) ∷ None ∷ Some (pos 9223372036854775807) ∷ None ∷ Some (pos 7) ∷ Some (pos 0) ∷ Some (pos 5) ∷ None ∷ None ∷ None ∷ None ∷ []
+    )
+    ≡ Some (negsuc 9223372036854775807) ∷ None ∷ Some (pos 9223372036854775807) ∷ None ∷ Some (pos 7) ∷ Some (pos 0) ∷ Some (pos 5) ∷ None ∷ None ∷ None ∷ None ∷ []
 unfolding signed_in unsigned_in signed_from unsigned_from digits_below when_below trimmed without_space is_space is_decimal numeral_from
 signed_cases = refl
 
@@ -45,8 +44,8 @@ unsigned_cases : map unsigned_in (
     ∷ codes "+12"
     ∷ codes "0000000000000000000000000000000000000000000000000000000000000001"
     ∷ codes "00000000000000000000000000000000000000000000000000000000000000001" ∷ []
-  )
-  ≡ Some 18446744073709551615 ∷ None ∷ None ∷ Some 12 ∷ Some 1 ∷ None ∷ []
+    )
+    ≡ Some 18446744073709551615 ∷ None ∷ None ∷ Some 12 ∷ Some 1 ∷ None ∷ []
 unfolding signed_in unsigned_in signed_from unsigned_from digits_below when_below trimmed without_space is_space is_decimal numeral_from
 unsigned_cases = refl
 
@@ -196,7 +195,7 @@ u_items : stated_items (shape_of u_tree) ≡ stated_cloud 6 2 (
     ∷ record { node = 12; path = codes "colorRed"; kind = Int (pos 0) (pos 255); width = 8 }
     ∷ record { node = 13; path = codes "colorGreen"; kind = Int (pos 0) (pos 255); width = 8 }
     ∷ record { node = 14; path = codes "colorBlue"; kind = Int (pos 0) (pos 255); width = 8 } ∷ []
-  ) ∷ []
+    ) ∷ []
 unfolding signed_in unsigned_in signed_from unsigned_from digits_below when_below trimmed without_space is_space is_decimal numeral_from is_integer_text value_of type_named precision_named type_in facts_of child_named fields_of type_fault name_fault child_fault attr_fault limits_fault compressed_vector_fault node_fault bit_length width stated_item stated_place with_value digits
 u_items = refl
 
@@ -213,7 +212,7 @@ s_items : stated_items (shape_of s_tree) ≡ stated_cloud 1 3 (
     ∷ record { node = 4; path = codes "c"; kind = Int (pos 5) (pos 5); width = 0 }
     ∷ record { node = 5; path = codes "f"; kind = Bits32; width = 32 }
     ∷ record { node = 6; path = codes "s"; kind = Text; width = 0 } ∷ []
-  ) ∷ []
+    ) ∷ []
 unfolding signed_in unsigned_in signed_from unsigned_from digits_below when_below trimmed without_space is_space is_decimal numeral_from is_integer_text value_of type_named precision_named type_in facts_of child_named fields_of type_fault name_fault child_fault attr_fault limits_fault compressed_vector_fault node_fault bit_length width stated_item stated_place with_value digits
 s_items = refl
 
@@ -234,7 +233,7 @@ nested_items : stated_items (shape_of nested_tree) ≡ stated_cloud 1 0 (
     record { node = 4; path = codes "g/0"; kind = Scaled (pos 0) (pos 256) (codes "0.1") (codes "0"); width = 9 }
     ∷ record { node = 6; path = codes "g/1/z"; kind = Bits64; width = 64 }
     ∷ record { node = 7; path = codes "x"; kind = Int (negsuc 9223372036854775807) (pos 9223372036854775807); width = 64 } ∷ []
-  ) ∷ []
+    ) ∷ []
 unfolding signed_in unsigned_in signed_from unsigned_from digits_below when_below trimmed without_space is_space is_decimal numeral_from is_integer_text value_of type_named precision_named type_in facts_of child_named fields_of type_fault name_fault child_fault attr_fault limits_fault compressed_vector_fault node_fault bit_length width stated_item stated_place with_value digits
 nested_items = refl
 

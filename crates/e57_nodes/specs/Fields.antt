@@ -1,5 +1,5 @@
 -- The fields of a cloud: the Integer, ScaledInteger, Float and String nodes below its prototype, in preorder (ASTM E2807, prototype).
-use Rattle.std.specs.Prelude.{ℕ, ◌+◌, ◌==◌, ℤ, pos, Bool, List, [], ◌∷◌, ◌++◌, drop, find, codes, Option, Some, None, unwrap_or, if◌then◌else◌}
+use Rattle.std.specs.Prelude.{ℕ, ◌+◌, ◌==◌, pos, Bool, List, [], ◌∷◌, ◌++◌, drop, find, codes, Option, Some, None, unwrap_or, if◌then◌else◌}
 use Rattle.std.specs.Str.{bytes_eq}
 use Rattle.e57_layout.specs.declared.field.Field.{Field}
 use Rattle.e57_layout.specs.declared.field.FieldKind.{FieldKind}

@@ -1,8 +1,7 @@
 -- The paths of nodes: names from the root's children down, each after a `/`. A child of a Vector has its position, from 0, in place of its name.
-use Rattle.std.specs.Prelude.{ℕ, ◌+◌, Bool, true, false, List, [], ◌∷◌, ◌++◌, codes, decimal, slice_get, Option, Some, None, unwrap_or, if◌then◌else◌}
+use Rattle.std.specs.Prelude.{ℕ, ◌+◌, Bool, true, false, List, [], ◌∷◌, ◌++◌, codes, decimal, slice_get, Option, Some, unwrap_or, if◌then◌else◌}
 use Rattle.e57_nodes.specs.declared.ElementType.{ElementType}
 use Rattle.e57_nodes.specs.declared.ElementType.TheVariants as element_type
-use Rattle.e57_nodes.specs.Facts.{Facts}
 use Rattle.e57_nodes.specs.Shape.{Shape, shape, Shapes, no_shapes, shapes}
 
 -- its children go by their positions

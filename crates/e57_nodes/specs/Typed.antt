@@ -1,16 +1,15 @@
 -- The first fault of the nodes of a tree (ASTM E2807, element types): the rules of each type, tested in one order.
-use Rattle.std.specs.Prelude.{ℕ, ◌+◌, ◌^◌, ◌==◌, nat_lt, int_lt, pos, Bool, true, false, ◌&&◌, ◌||◌, not, List, [], ◌∷◌, ◌++◌, length, find, slice_get, codes, Option, Some, None, is_some, option_map, unwrap_or, if◌then◌else◌}
+use Rattle.std.specs.Prelude.{ℕ, ◌+◌, ◌^◌, ◌==◌, nat_lt, int_lt, pos, Bool, true, false, ◌&&◌, ◌||◌, not, List, [], ◌∷◌, ◌++◌, length, find, slice_get, codes, Option, Some, None, is_some, option_map, unwrap_or}
 use Rattle.std.specs.Option.{option_or}
 use Rattle.std.specs.Str.{bytes_eq}
 use Rattle.e57_base.specs.declared.fault.Fault.{Fault}
 use Rattle.e57_base.specs.declared.kind.Kind.TheVariants as kind
 use Rattle.e57_base.specs.Fault.{fault}
-use Rattle.e57_layout.specs.declared.field.Field.{Field}
 use Rattle.e57_sections.specs.Section.{when}
 use Rattle.e57_nodes.specs.declared.ElementType.{ElementType}
 use Rattle.e57_nodes.specs.declared.ElementType.TheVariants as element_type
 use Rattle.e57_nodes.specs.Facts.{Facts}
-use Rattle.e57_nodes.specs.Shape.{Shape, shape, Shapes, no_shapes, shapes, node_count, Node, node_at, children_from, children_of, nodes_below}
+use Rattle.e57_nodes.specs.Shape.{Shape, shape, Shapes, no_shapes, shapes, node_count, Node, node_at, children_of, nodes_below}
 use Rattle.e57_nodes.specs.Places.{has_section}
 use Rattle.e57_nodes.specs.Fields.{child_named, fields_of}
 

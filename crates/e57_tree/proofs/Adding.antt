@@ -1,18 +1,16 @@
 -- The fields below a node, child after child, and widths.
-use Rattle.std.proofs.Common.{◌≡◌, ℕ, zero, suc, ◌+◌, ◌-◌, ◌*◌, ◌/◌, ◌^◌, ◌<◌, ◌≤◌, Bool, true, false, cond, eqb, List, [], ◌∷◌, ◌++◌, length, ℤ, pos, negsuc, neg_ℤ, ◌-ℤ◌, ◌≤ℤ◌, refl, sym, ap, subst, ◌∙◌, arith, append_assoc}
-use Rattle.std.specs.Prelude.{unsigned_abs}
-use Rattle.std.specs.Int.{int_gap}
+use Rattle.std.proofs.Common.{◌≡◌, ℕ, zero, suc, ◌+◌, ◌-◌, ◌*◌, ◌/◌, ◌^◌, ◌<◌, ◌≤◌, Bool, true, false, List, ◌∷◌, ◌++◌, length, refl, sym, ap, subst, ◌∙◌, arith, append_assoc}
 use Rattle.std.proofs.lemmas.Bool.{ne_eqb}
 use Rattle.std.proofs.Math.Nat.{pow-suc}
 use Rattle.std.proofs.lemmas.List.{append-nil}
 use Rattle.e57_elements.specs.declared.tree.RawNode.{RawNode}
 use Rattle.e57_layout.specs.declared.field.Field.{Field}
 use Rattle.e57_layout.specs.Widths.{bit_length}
-use Rattle.e57_nodes.specs.Paths.{child_path, counts_children}
+use Rattle.e57_nodes.specs.Paths.{child_path}
 use Rattle.e57_nodes.specs.Fields.{fields_from, fields_from_all}
-use Rattle.e57_tree.specs.Flat.{raw_at, facts_in, shapes_between, end_of, node_in, shape_in, AreElements}
-use Rattle.e57_tree.specs.Paths.{named_path, fields_in}
-use Rattle.e57_tree.specs.Laws.Flat.{IsNext, next_element, shapes_between-end}
+use Rattle.e57_tree.specs.Flat.{raw_at, shapes_between, end_of, shape_in, AreElements}
+use Rattle.e57_tree.specs.Paths.{named_path}
+use Rattle.e57_tree.specs.Laws.Flat.{next_element, shapes_between-end}
 use Rattle.e57_tree.proofs.Children.{name_in}
 
 -- the fields of the children from this one on
@@ -40,8 +38,8 @@ adding_goes_on nodes n child end next position later counted path own name befor
     let rest = fields_left counted path (position + 1) nodes (end_of nodes child) end in
     let own_is : own ≡ child_path counted path position (shape_in nodes child) = o ∙ ap (named_path counted path position) m ∙ child_named_path counted path position nodes child in
     let left : fields_left counted path position nodes child end ≡ first ++ rest =
-        ap (fields_from_all counted path position child) is_next.shapes_are
-        ∙ ap (λ k. first ++ fields_from_all counted path (position + 1) (child + k) (shapes_between nodes (end_of nodes child) end)) is_next.inside.count in
+    ap (fields_from_all counted path position child) is_next.shapes_are
+    ∙ ap (λ k. first ++ fields_from_all counted path (position + 1) (child + k) (shapes_between nodes (end_of nodes child) end)) is_next.inside.count in
     record {
       elements = subst (λ (k : ℕ). AreElements nodes k end) (sym e) is_next.after;
       all =

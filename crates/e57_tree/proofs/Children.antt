@@ -1,14 +1,14 @@
 -- The children of a node, one after another.
-use Rattle.std.proofs.Common.{◌≡◌, ℕ, ◌+◌, ◌<◌, ◌≤◌, Bool, true, false, cond, List, [], ◌∷◌, length, Option, Some, None, refl, sym, ap, subst, ◌∙◌, arith}
+use Rattle.std.proofs.Common.{◌≡◌, ℕ, ◌+◌, ◌<◌, ◌≤◌, Bool, true, false, cond, List, [], ◌∷◌, Some, None, refl, sym, ap, subst, ◌∙◌, arith}
 use Rattle.std.specs.Prelude.{find, slice_get}
 use Rattle.std.specs.Str.{bytes_eq}
 use Rattle.e57_elements.specs.declared.tree.RawNode.{RawNode}
-use Rattle.e57_nodes.specs.Facts.{Facts, facts_of, type_in}
-use Rattle.e57_nodes.specs.Shape.{Shapes, no_shapes, shapes, node_count, Node, node_at, children_from, children_of}
+use Rattle.e57_nodes.specs.Facts.{facts_of, type_in}
+use Rattle.e57_nodes.specs.Shape.{Node, children_from}
 use Rattle.e57_nodes.specs.Fields.{child_named}
 use Rattle.e57_nodes.specs.Typed.{is_misplaced}
-use Rattle.e57_tree.specs.Flat.{raw_at, facts_in, shapes_between, end_of, node_in, shape_in, AreElements, is_other}
-use Rattle.e57_tree.specs.Laws.Flat.{IsNext, next_element, shapes_between-end}
+use Rattle.e57_tree.specs.Flat.{raw_at, facts_in, shapes_between, end_of, node_in, AreElements, is_other}
+use Rattle.e57_tree.specs.Laws.Flat.{next_element, shapes_between-end}
 
 abbrev pub children_at : List RawNode → ℕ → ℕ → List Node
 children_at nodes n end = children_from n (shapes_between nodes n end)

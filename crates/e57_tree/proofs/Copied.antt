@@ -1,14 +1,12 @@
 -- Attributes and nodes that are copied one after another.
-use Rattle.std.proofs.Common.{◌≡◌, ℕ, zero, suc, ◌+◌, ◌-◌, ◌^◌, ◌<◌, ◌≤◌, Bool, true, false, cond, ◌&&◌, ◌||◌, not, List, [], ◌∷◌, ◌++◌, length, map, get_or, drop, Some, slice_get, refl, sym, ap, subst, ◌∙◌, arith, append_assoc}
+use Rattle.std.proofs.Common.{◌≡◌, ℕ, suc, ◌+◌, ◌^◌, ◌<◌, ◌≤◌, Bool, true, false, cond, ◌||◌, List, [], ◌∷◌, ◌++◌, length, map, get_or, drop, Some, slice_get, refl, sym, ap, ◌∙◌, arith, append_assoc}
 use Rattle.std.specs.Prelude.{unwrap_or, option_and_then}
 use Rattle.std.proofs.Common.{Fits, w64, None}
 use Rattle.std.specs.Fmt.{decimal}
-use Rattle.std.specs.Str.{bytes_eq}
 use Rattle.std.specs.List.{AllByRecursion, filter_map, cons_option}
 use Rattle.std.proofs.lemmas.List.{append-nil, drop-drop}
 use Rattle.e57_pieces.specs.declared.piece.Attr.{Attr}
 use Rattle.e57_elements.specs.declared.tree.RawNode.{RawNode}
-use Rattle.e57_elements.specs.Tree.{Element, preorder}
 use Rattle.e57_elements.specs.Lawful.{AreNodes}
 use Rattle.e57_nodes.specs.Places.{is_cloud_or_blob, place_name, stated_place, with_value, with_places}
 use Rattle.e57_nodes.specs.Facts.{value_of, unsigned_in}
@@ -60,6 +58,7 @@ unfolding stated_place
 count_one node rest = by_test (is_cloud_or_blob node.attrs) where
   value : ℕ
   value = unwrap_or (option_and_then unsigned_in (value_of place_name node.attrs)) 0
+
   by_test : (b : Bool) → length (cons_option (cond b (Some value) None) (filter_map stated_place rest)) ≡ cond b 1 0 + item_count rest
   by_test true = omega arith
   by_test false = omega arith

@@ -1,22 +1,20 @@
 -- The clouds and blobs that are found, node after node.
-use Rattle.std.proofs.Common.{◌≡◌, ℕ, zero, suc, ◌+◌, ◌-◌, ◌<◌, ◌≤◌, Bool, true, false, cond, List, [], ◌∷◌, ◌++◌, length, drop, get_or, slice_get, Option, Some, None, refl, sym, ap, subst, ◌∙◌, arith, append_assoc, length-append}
-use Rattle.std.specs.Prelude.{unwrap_or, option_and_then}
+use Rattle.std.proofs.Common.{◌≡◌, ℕ, ◌+◌, ◌-◌, ◌<◌, ◌≤◌, cond, List, [], ◌∷◌, ◌++◌, length, drop, Option, Some, None, sym, ap, subst, ◌∙◌, arith, append_assoc, length-append}
 use Rattle.std.specs.List.{filter_map, cons_option}
 use Rattle.std.proofs.lemmas.List.{append-nil}
 use Rattle.std.proofs.Math.Nat.{le_refl}
 use Rattle.std.proofs.lemmas.Option.{slice_get-get_or}
 use Rattle.e57_elements.specs.declared.tree.RawNode.{RawNode}
-use Rattle.e57_elements.specs.Tree.{Element, element, Elements, none, more, preorder, preorder_all}
+use Rattle.e57_elements.specs.Tree.{Element, none, more, preorder, preorder_all}
 use Rattle.e57_nodes.specs.declared.ElementType.{ElementType}
 use Rattle.e57_nodes.specs.declared.ElementType.TheVariants as element_type
-use Rattle.e57_nodes.specs.Facts.{value_of, unsigned_in, type_in, facts_of}
-use Rattle.e57_nodes.specs.Shape.{Shapes, shapes, no_shapes, shape_of, shapes_of, Node, nodes_from, nodes_from_all}
-use Rattle.e57_nodes.specs.Places.{has_section, place_name, stated_place, places_in}
-use Rattle.e57_nodes.specs.Items.{StatedItem, stated_cloud, stated_blob, stated_by, stated_item, stated_items}
+use Rattle.e57_nodes.specs.Facts.{type_in}
+use Rattle.e57_nodes.specs.Shape.{shape_of, nodes_from, nodes_from_all}
+use Rattle.e57_nodes.specs.Places.{has_section, stated_place, places_in}
+use Rattle.e57_nodes.specs.Items.{StatedItem, stated_by, stated_item, stated_items}
 use Rattle.e57_tree.specs.declared.found.Found.{Found}
-use Rattle.e57_tree.specs.declared.items.Item.TheVariants as item
-use Rattle.e57_tree.specs.Flat.{no_node, raw_at, facts_in, node_in, shapes_between, AreElements}
-use Rattle.e57_tree.specs.Held.{clouds_among, blobs_among, items_among, fields_among, clouds_of, blobs_of, items_of, cloud_fields, Holds, place_at, AddsCloud, AddsBlob, AddsNode}
+use Rattle.e57_tree.specs.Flat.{no_node, raw_at, node_in, AreElements}
+use Rattle.e57_tree.specs.Held.{clouds_among, blobs_among, items_among, fields_among, Holds, place_at, AddsCloud, AddsBlob, AddsNode}
 use Rattle.e57_tree.specs.Laws.Flat.{shapes_between-is}
 use Rattle.e57_tree.proofs.Lists.{drop-here, drop-all}
 use Rattle.e57_tree.proofs.Rows.{row, row_first, row_none, below_in_row}

@@ -1,5 +1,5 @@
 -- The children of a node, judged one after another.
-use Rattle.std.proofs.Common.{◌≡◌, ℕ, ◌+◌, ◌-◌, ◌<◌, ◌≤◌, Bool, true, false, cond, List, [], ◌∷◌, ◌++◌, length, Option, Some, None, Result, Ok, Err, option_map, refl, sym, ap, subst, ◌∙◌, arith}
+use Rattle.std.proofs.Common.{◌≡◌, ℕ, ◌+◌, ◌<◌, ◌≤◌, Bool, true, false, cond, List, [], ◌∷◌, ◌++◌, Option, Some, None, Err, option_map, refl, sym, ap, subst, ◌∙◌, arith}
 use Rattle.std.specs.Prelude.{find}
 use Rattle.std.specs.Option.{option_or}
 use Rattle.std.specs.Str.{bytes_eq}
@@ -9,14 +9,14 @@ use Rattle.e57_base.specs.declared.fault.TextFault.TheVariants.{Refused, Memory}
 use Rattle.e57_elements.specs.declared.tree.RawNode.{RawNode}
 use Rattle.e57_nodes.specs.declared.ElementType.{ElementType}
 use Rattle.e57_nodes.specs.Facts.{type_in}
-use Rattle.e57_nodes.specs.Shape.{Shape, shape, Shapes, no_shapes, shapes, node_count, Node, node_at}
+use Rattle.e57_nodes.specs.Shape.{Node}
 use Rattle.e57_nodes.specs.Fields.{child_named}
-use Rattle.e57_nodes.specs.Typed.{node_fault, names_differ, namesake_of, tree_fault, trees_fault}
+use Rattle.e57_nodes.specs.Typed.{names_differ, namesake_of, tree_fault, trees_fault}
 use Rattle.e57_tree.specs.declared.names.Names.{Names}
-use Rattle.e57_tree.specs.Names.{number_of, Notes}
+use Rattle.e57_tree.specs.Names.{number_of}
 use Rattle.e57_tree.specs.Judged.{IsJudged, namesake_in, NotesChild}
 use Rattle.e57_tree.specs.Flat.{raw_at, facts_in, shapes_between, end_of, node_in, shape_in, AreElements}
-use Rattle.e57_tree.specs.Laws.Flat.{IsNext, next_element, shapes_between-end}
+use Rattle.e57_tree.specs.Laws.Flat.{next_element, shapes_between-end}
 use Rattle.e57_tree.proofs.Children.{name_in, type_read}
 
 -- the names are those of these children, where names differ
@@ -47,7 +47,7 @@ named-append q [] x = refl
 named-append q (y ∷ ys) x = by_test (named-append q ys x) (bytes_eq y.facts.name q) where
   by_test : find (λ (z : Node). bytes_eq z.facts.name q) (ys ++ x ∷ []) ≡ option_or (find (λ (z : Node). bytes_eq z.facts.name q) ys) (cond (bytes_eq x.facts.name q) (Some x) None) → (b : Bool)
       → cond b (Some y) (find (λ (z : Node). bytes_eq z.facts.name q) (ys ++ x ∷ []))
-        ≡ option_or (cond b (Some y) (find (λ (z : Node). bytes_eq z.facts.name q) ys)) (cond (bytes_eq x.facts.name q) (Some x) None)
+      ≡ option_or (cond b (Some y) (find (λ (z : Node). bytes_eq z.facts.name q) ys)) (cond (bytes_eq x.facts.name q) (Some x) None)
   by_test later true = refl
   by_test later false = later
 
@@ -71,13 +71,13 @@ more_names true earlier old new name x e h notes = λ q.
 -- the fault of what is left: that of the next child, or of those behind it
 left_fault : (differ : Bool) (nodes : List RawNode) (child end : ℕ) (earlier : List Node) → AreElements nodes child end → child < end
     → trees_fault differ earlier child (shapes_between nodes child end)
-      ≡ option_or (tree_fault (namesake_of differ earlier (facts_in (raw_at nodes child)).name) child (shape_in nodes child))
-        (trees_fault differ (earlier ++ node_in nodes child ∷ []) (end_of nodes child) (shapes_between nodes (end_of nodes child) end))
+    ≡ option_or (tree_fault (namesake_of differ earlier (facts_in (raw_at nodes child)).name) child (shape_in nodes child))
+    (trees_fault differ (earlier ++ node_in nodes child ∷ []) (end_of nodes child) (shapes_between nodes (end_of nodes child) end))
 left_fault differ nodes child end earlier h l =
     let next = next_element nodes child end h l in
     ap (trees_fault differ earlier child) next.shapes_are
     ∙ ap (λ k. option_or (tree_fault (namesake_of differ earlier (facts_in (raw_at nodes child)).name) child (shape_in nodes child))
-        (trees_fault differ (earlier ++ node_in nodes child ∷ []) (child + k) (shapes_between nodes (end_of nodes child) end))) next.inside.count
+    (trees_fault differ (earlier ++ node_in nodes child ∷ []) (child + k) (shapes_between nodes (end_of nodes child) end))) next.inside.count
 
 namesake_read : (differ : Bool) (nodes : List RawNode) (child : ℕ) (earlier : List Node) (names : Names) (name : List ℕ) (found : Option ℕ)
     → AreNamed differ earlier names → name ≡ (raw_at nodes child).name → found ≡ namesake_in names differ name → found ≡ namesake_of differ earlier (facts_in (raw_at nodes child)).name

@@ -1,15 +1,14 @@
 -- The way down to a node, and its path.
-use Rattle.std.proofs.Common.{◌≡◌, ℕ, zero, suc, ◌+◌, ◌-◌, ◌<◌, ◌≤◌, Bool, true, false, cond, List, [], ◌∷◌, ◌++◌, length, slice_get, Option, Some, None, refl, sym, ap, subst, ◌∙◌, arith, length-append}
+use Rattle.std.proofs.Common.{◌≡◌, ℕ, zero, suc, ◌+◌, ◌-◌, ◌<◌, ◌≤◌, Bool, true, false, List, [], ◌∷◌, ◌++◌, length, slice_get, Option, refl, sym, ap, subst, ◌∙◌, arith, length-append}
 use Rattle.std.specs.Prelude.{unwrap_or}
-use Rattle.std.specs.Fmt.{decimal}
 use Rattle.e57_elements.specs.declared.tree.RawNode.{RawNode}
 use Rattle.e57_elements.specs.Tree.{Element, element, preorder}
 use Rattle.e57_elements.specs.Lawful.{AreNodes}
 use Rattle.e57_nodes.specs.Shape.{Shape, shape, Shapes, no_shapes, shapes, shape_of, node_count, node_count_all}
 use Rattle.e57_nodes.specs.Paths.{counts_children, child_path, paths_from, paths_from_all, path_of}
-use Rattle.e57_tree.specs.Flat.{raw_at, facts_in, shapes_between, end_of, node_in, shape_in, AreElements}
+use Rattle.e57_tree.specs.Flat.{raw_at, facts_in, shapes_between, end_of, shape_in, AreElements}
 use Rattle.e57_tree.specs.Paths.{named_path, path_in, LeadsTo}
-use Rattle.e57_tree.specs.Laws.Flat.{IsInside, IsNext, next_element, node_inside, shape_in-root, node_count-shape_of}
+use Rattle.e57_tree.specs.Laws.Flat.{next_element, node_inside, shape_in-root, node_count-shape_of}
 use Rattle.e57_tree.proofs.Children.{name_in}
 
 -- ---- as many paths as nodes
@@ -44,7 +43,7 @@ path_among counted own position nodes child end wanted = slice_get (paths_from_a
 
 paths_next : (counted : Bool) (own : List ℕ) (position : ℕ) (nodes : List RawNode) (child end : ℕ) → AreElements nodes child end → child < end
     → paths_from_all counted own position (shapes_between nodes child end)
-      ≡ paths_from (child_path counted own position (shape_in nodes child)) (shape_in nodes child) ++ paths_from_all counted own (position + 1) (shapes_between nodes (end_of nodes child) end)
+    ≡ paths_from (child_path counted own position (shape_in nodes child)) (shape_in nodes child) ++ paths_from_all counted own (position + 1) (shapes_between nodes (end_of nodes child) end)
 paths_next counted own position nodes child end h l = ap (paths_from_all counted own position) (next_element nodes child end h l).shapes_are
 
 named_child : (counted : Bool) (own : List ℕ) (position : ℕ) (nodes : List RawNode) (child : ℕ) → child_path counted own position (shape_in nodes child) ≡ named_path counted own position (raw_at nodes child).name

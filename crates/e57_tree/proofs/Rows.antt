@@ -1,20 +1,19 @@
 -- Nodes one after another in preorder, by their numbers.
-use Rattle.std.proofs.Common.{◌≡◌, ℕ, zero, suc, ◌+◌, ◌-◌, ◌<◌, ◌≤◌, Bool, true, false, cond, ltb, List, [], ◌∷◌, ◌++◌, length, Option, Some, None, is_some, refl, sym, ap, ◌∙◌, arith, append_assoc, length-append}
+use Rattle.std.proofs.Common.{◌≡◌, ℕ, zero, suc, ◌+◌, ◌-◌, ◌<◌, ◌≤◌, Bool, true, false, cond, ltb, List, [], ◌∷◌, ◌++◌, length, Option, Some, None, is_some, refl, sym, ap, ◌∙◌, arith, length-append}
 use Rattle.std.specs.Prelude.{find}
 use Rattle.std.proofs.lemmas.Bool.{ltb-true, ltb-false}
 use Rattle.std.proofs.Math.Nat.{le_refl}
 use Rattle.e57_elements.specs.declared.tree.RawNode.{RawNode}
-use Rattle.e57_layout.specs.declared.field.Field.{Field}
 use Rattle.e57_layout.specs.declared.field.FieldKind.{FieldKind}
 use Rattle.e57_nodes.specs.declared.ElementType.{ElementType}
 use Rattle.e57_nodes.specs.declared.ElementType.TheVariants as element_type
 use Rattle.e57_nodes.specs.Facts.{Facts, facts_of, type_in}
 use Rattle.e57_nodes.specs.Places.{has_section}
-use Rattle.e57_nodes.specs.Shape.{Shape, shape, Shapes, no_shapes, shapes, node_count, Node, node_at, nodes_from, nodes_from_all, nodes_below}
+use Rattle.e57_nodes.specs.Shape.{Shape, shape, Shapes, no_shapes, shapes, node_count, Node, nodes_from, nodes_from_all}
 use Rattle.e57_nodes.specs.Paths.{counts_children, child_path}
 use Rattle.e57_nodes.specs.Fields.{kind_of, field_at, fields_from, fields_from_all}
-use Rattle.e57_tree.specs.Flat.{raw_at, facts_in, shapes_between, end_of, node_in, shape_in, AreElements, has_section_node, is_field_type}
-use Rattle.e57_tree.specs.Laws.Flat.{IsInside, IsNext, next_element, shapes_between-end}
+use Rattle.e57_tree.specs.Flat.{raw_at, facts_in, shapes_between, end_of, node_in, AreElements, has_section_node, is_field_type}
+use Rattle.e57_tree.specs.Laws.Flat.{IsNext, next_element, shapes_between-end}
 
 -- k nodes, the first with this number
 abbrev pub row : List RawNode → ℕ → ℕ → List Node
@@ -61,7 +60,7 @@ by_number zero nodes n end few h = row_end nodes n end h (omega arith)
 by_number (suc most) nodes n end few h =
     by_test (ltb n end) refl
     (λ l. let next = next_element nodes n end h l in let forward = next.inside.forward in let within = next.within in
-      row_next nodes n end next (by_number most nodes (n + 1) (end_of nodes n) (omega arith) next.inside.below) (by_number most nodes (end_of nodes n) end (omega arith) next.after))
+    row_next nodes n end next (by_number most nodes (n + 1) (end_of nodes n) (omega arith) next.inside.below) (by_number most nodes (end_of nodes n) end (omega arith) next.after))
   where
     by_test : (b : Bool) → ltb n end ≡ b → (n < end → nodes_from_all n (shapes_between nodes n end) ≡ row nodes n (end - n)) → nodes_from_all n (shapes_between nodes n end) ≡ row nodes n (end - n)
     by_test true e step = step (ltb-true n end e)

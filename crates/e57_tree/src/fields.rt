@@ -60,7 +60,13 @@ pub fn fields_of(alloc: Global, raw: &RawTree, n: usize) -> Result<Fields, Alloc
 /// Adds the fields of a node with this path and of those below it. It calls itself for the children, so at most to the
 /// depth of the tree.
 #[cycle(fields)]
-fn add(alloc: Global, raw: &RawTree, n: usize, path: &mut Vec<u8>, fields: &mut Vec<Field>) -> Result<(), AllocError>
+fn add(
+    alloc: Global,
+    raw: &RawTree,
+    n: usize,
+    path: &mut Vec<u8>,
+    fields: &mut Vec<Field>,
+) -> Result<(), AllocError>
     requires { n < length raw.now }
     ensures fields { OnOk result (fields.new.items ≡ fields.old.items ++ fields_from path.old.items n (shape_in raw.now n)) }
     ensures path { OnOk result (path.new.items ≡ path.old.items) }
@@ -72,7 +78,13 @@ fn add(alloc: Global, raw: &RawTree, n: usize, path: &mut Vec<u8>, fields: &mut 
 
 /// Adds the field of a node with this path, if it is one.
 #[tactic(auto, unfolding(e57_nodes::specs::Facts::facts_of))]
-fn add_own(alloc: Global, raw: &RawTree, n: usize, path: &[u8], fields: &mut Vec<Field>) -> Result<(), AllocError>
+fn add_own(
+    alloc: Global,
+    raw: &RawTree,
+    n: usize,
+    path: &[u8],
+    fields: &mut Vec<Field>,
+) -> Result<(), AllocError>
     requires { n < length raw.now }
     ensures { OnOk result (fields.new.items ≡ fields.old.items ++ own_field raw.now n path.now) }
 {
@@ -88,7 +100,13 @@ fn add_own(alloc: Global, raw: &RawTree, n: usize, path: &[u8], fields: &mut Vec
 
 /// Adds the fields below a node with this path.
 #[cycle(fields)]
-fn add_below(alloc: Global, raw: &RawTree, n: usize, path: &mut Vec<u8>, fields: &mut Vec<Field>) -> Result<(), AllocError>
+fn add_below(
+    alloc: Global,
+    raw: &RawTree,
+    n: usize,
+    path: &mut Vec<u8>,
+    fields: &mut Vec<Field>,
+) -> Result<(), AllocError>
     requires { n < length raw.now }
     ensures fields { OnOk result (fields.new.items ≡ fields.old.items ++ fields_in raw.now n path.old.items) }
     ensures path { OnOk result (path.new.items ≡ path.old.items) }
@@ -109,7 +127,12 @@ fn add_below(alloc: Global, raw: &RawTree, n: usize, path: &mut Vec<u8>, fields:
 }
 
 /// Appends `/`, and a child's position or its name.
-pub fn push_child(path: &mut Vec<u8>, counted: bool, position: u32, name: &[u8]) -> Result<(), AllocError>
+pub fn push_child(
+    path: &mut Vec<u8>,
+    counted: bool,
+    position: u32,
+    name: &[u8],
+) -> Result<(), AllocError>
     ensures { OnOk result (path.new.items ≡ named_path counted path.old.items position name.now) }
 {
     path.push(b'/')?;

@@ -88,7 +88,12 @@ fn names_differ(t: Option<ElementType>) -> bool
 }
 
 /// The number of an earlier child with this name, where names differ; then the name is noted.
-fn namesake<'a>(names: &mut Names<'a>, differ: bool, name: &'a [u8], child: usize) -> Result<Option<u32>, AllocError>
+fn namesake<'a>(
+    names: &mut Names<'a>,
+    differ: bool,
+    name: &'a [u8],
+    child: usize,
+) -> Result<Option<u32>, AllocError>
     requires { child < 2 ^ 32 }
     ensures found { IfOk result (λ found. found ≡ namesake_in names.old differ name.now) }
     ensures noted { OnOk result (NotesChild names.old names.new differ name.now child) }

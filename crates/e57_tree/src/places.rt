@@ -33,11 +33,20 @@ pub fn with_places(alloc: Global, raw: &RawTree, places: &[u64]) -> Result<RawTr
 fn section_count(node: &RawNode) -> usize
     ensures { result ≡ section_count node.now }
 {
-    if has_section(element_type(&node.attrs)) { 1 } else { 0 }
+    if has_section(element_type(&node.attrs)) {
+        1
+    } else {
+        0
+    }
 }
 
 /// A copy of a node, of a cloud or blob with the first place that isn't used yet.
-fn next_node(alloc: Global, node: &RawNode, places: &[u64], used: usize) -> Result<RawNode, AllocError>
+fn next_node(
+    alloc: Global,
+    node: &RawNode,
+    places: &[u64],
+    used: usize,
+) -> Result<RawNode, AllocError>
     requires { used + section_count node.now ≤ length places.now }
     ensures { IfOk result (λ new. new ≡ placed_node (drop used (map decimal places.now)) node.now) }
 {

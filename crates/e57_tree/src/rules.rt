@@ -15,11 +15,17 @@ use e57_nodes::ElementType;
 
 /// The numbers of the attributes that a fault names, and of the text.
 const MINIMUM: u64 = 1;
+
 const MAXIMUM: u64 = 2;
+
 const PRECISION: u64 = 3;
+
 const FILE_OFFSET: u64 = 4;
+
 const RECORD_COUNT: u64 = 5;
+
 const LENGTH: u64 = 6;
+
 const TEXT: u64 = 7;
 
 /// The fault of this kind with these two numbers.

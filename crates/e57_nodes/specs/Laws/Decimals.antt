@@ -1,8 +1,8 @@
 -- A number written in decimal is read again.
-use Rattle.std.proofs.Common.{◌≡◌, ℕ, suc, ◌+◌, ◌*◌, ◌/◌, ◌%◌, ◌^◌, ◌<◌, ◌≤◌, Bool, true, false, cond, ◌&&◌, ◌||◌, not, eqb, ltb, leb, List, [], ◌∷◌, ◌++◌, length, reverse, Option, Some, None, ℤ, pos, negsuc, neg_ℤ, option_map, refl, sym, ap, ◌∙◌, arith, length-append}
+use Rattle.std.proofs.Common.{◌≡◌, ℕ, suc, ◌+◌, ◌*◌, ◌/◌, ◌%◌, ◌^◌, ◌<◌, ◌≤◌, Bool, true, false, cond, ◌&&◌, ◌||◌, eqb, leb, List, [], ◌∷◌, ◌++◌, length, reverse, Some, ℤ, pos, negsuc, neg_ℤ, option_map, refl, ap, ◌∙◌, arith, length-append}
 use Rattle.std.proofs.lemmas.List.{reverse-reverse, reverse-append, length-reverse}
 use Rattle.std.proofs.lemmas.Str.{digit_value_digit}
-use Rattle.std.proofs.lemmas.Bool.{lt-ltb, le-ltb, le-leb, ne_eqb}
+use Rattle.std.proofs.lemmas.Bool.{lt-ltb, le-leb, ne_eqb}
 use Rattle.std.proofs.lemmas.Fmt.{decimal_by_steps, length-decimal-le}
 use Rattle.std.specs.Fmt.{decimal, signed_decimal}
 use Rattle.std.specs.Int.Signed.{mag}
@@ -147,6 +147,7 @@ minus_tight bytes w = record {
   where
     some : 0 < length (reverse bytes)
     some = omega (arith, length-reverse bytes, w.some)
+
     behind : (bs : List ℕ) → AreDigits bs → 0 < length bs → without_space (bs ++ 45 ∷ []) ≡ bs ++ 45 ∷ []
     behind [] h l = absurd (omega arith)
     behind (b ∷ bs) h l = begins_plain b (bs ++ 45 ∷ []) (digit_plain b h.0)
@@ -182,12 +183,16 @@ character_digit b h =
   where
     marks : Bool
     marks = eqb b 0x9 || eqb b 0xA || eqb b 0xD
+
     graphic : Bool
     graphic = leb 0x20 b && leb b 0xD7FF
+
     private : Bool
     private = leb 0xE000 b && leb b 0xFFFD
+
     supplementary : Bool
     supplementary = leb 0x10000 b && leb b 0x10FFFF
+
     both : {p q : Bool} → p ≡ true → q ≡ true → (p && q) ≡ true
     both e f = rw (e, f) refl
 
@@ -198,6 +203,7 @@ AreCharacters-digits bytes h = record { numbers = bytes; each = each bytes h; sp
     each : (bs : List ℕ) → AreDigits bs → AllByRecursion (λ c. is_character c ≡ true) bs
     each [] h = tt
     each (b ∷ bs) h = (character_digit b h.0, each bs h.1)
+
     spelled : (bs : List ℕ) → AreDigits bs → encode_utf8_all bs ≡ bs
     spelled [] h = refl
     spelled (b ∷ bs) h = encoded_digit b bs h.0 ∙ ap (λ rest. b ∷ rest) (spelled bs h.1)

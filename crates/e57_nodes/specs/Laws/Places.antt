@@ -1,19 +1,17 @@
 -- Other places in a tree: the nodes and what is read of them stay, and the places are those that were put.
-use Rattle.std.proofs.Common.{◌≡◌, ℕ, zero, suc, ◌+◌, ◌-◌, ◌^◌, ◌<◌, ◌≤◌, Bool, true, false, cond, List, [], ◌∷◌, ◌++◌, length, take, drop, map, Option, Some, None, is_some, refl, sym, ap, subst, ◌∙◌, arith, length-append, length-drop, max}
+use Rattle.std.proofs.Common.{◌≡◌, ℕ, zero, suc, ◌+◌, ◌^◌, ◌<◌, ◌≤◌, Bool, true, false, cond, List, [], ◌∷◌, ◌++◌, length, drop, map, Option, Some, None, is_some, refl, sym, ap, subst, ◌∙◌, arith, length-append, length-drop, max}
 use Rattle.std.specs.Prelude.{codes, slice_index_or, unwrap_or, option_map, option_and_then, replicate, if◌then◌else◌}
 use Rattle.std.specs.Fmt.{decimal}
 use Rattle.std.specs.List.{AllByRecursion, filter_map, cons_option}
-use Rattle.std.proofs.lemmas.List.{drop-drop}
 use Rattle.std.proofs.lemmas.List.Elements.{filter_map-append}
 use Rattle.e57_pieces.specs.declared.piece.Attr.{Attr}
-use Rattle.e57_pieces.specs.Words.{is_space}
 use Rattle.e57_elements.specs.declared.tree.RawNode.{RawNode}
 use Rattle.e57_elements.specs.Tree.{Element, element, Elements, none, more, preorder, preorder_all, depth, depth_all}
 use Rattle.e57_elements.specs.Lawful.{IsLawfulAttr, IsLawfulNode, IsLawful}
 use Rattle.e57_pieces.specs.Characters.{AreCharacters}
 use Rattle.e57_pieces.specs.Laws.Characters.{AreCharacters-nil}
-use Rattle.e57_nodes.specs.Facts.{value_of, unsigned_in, type_in, Facts, facts_of}
-use Rattle.e57_nodes.specs.Shape.{Shape, shape, Shapes, no_shapes, shapes, shape_of, shapes_of}
+use Rattle.e57_nodes.specs.Facts.{value_of, unsigned_in, type_in, facts_of}
+use Rattle.e57_nodes.specs.Shape.{shape, shapes, shape_of, shapes_of}
 use Rattle.e57_nodes.specs.Places.{is_cloud_or_blob, place_name, stated_place, places_in, with_value, with_places, with_places_all, without_places}
 use Rattle.e57_nodes.specs.Laws.Decimals.{unsigned_in-decimal, decimal_writes, AreCharacters-digits}
 use Rattle.e57_nodes.specs.Laws.Values.{value_of-with_value, value_of-with_other, with_value-twice, length-with_value, all-with_value, differ-with_value}
@@ -99,11 +97,11 @@ placed_nodes-append texts (node ∷ xs) ys =
 -- with_places, as one element whose attributes are those of its node
 with_places-is : (texts : List (List ℕ)) (name : List ℕ) (attrs : List Attr) (text : List ℕ) (children : Elements)
     → with_places texts (element name attrs text children)
-      ≡ element name (placed_node texts (node_of name attrs text children)).attrs text (with_places_all (texts_after texts (node_of name attrs text children)) children)
+    ≡ element name (placed_node texts (node_of name attrs text children)).attrs text (with_places_all (texts_after texts (node_of name attrs text children)) children)
 with_places-is texts name attrs text children = by_test (is_cloud_or_blob attrs) refl where
   by_test : (b : Bool) → is_cloud_or_blob attrs ≡ b
       → with_places texts (element name attrs text children)
-        ≡ element name (placed_node texts (node_of name attrs text children)).attrs text (with_places_all (texts_after texts (node_of name attrs text children)) children)
+      ≡ element name (placed_node texts (node_of name attrs text children)).attrs text (with_places_all (texts_after texts (node_of name attrs text children)) children)
   by_test true e = rw e refl
   by_test false e = rw e refl
 
@@ -114,6 +112,7 @@ node_same : (texts : List (List ℕ)) (node : RawNode) (children : Elements) (be
 node_same texts node children below later size = by_test (is_cloud_or_blob node.attrs) refl where
   same_size : length (preorder_all children) + 1 ≡ node.size
   same_size = ap (λ ns. length ns + 1) later ∙ ap (λ n. n + 1) (length-placed_nodes (texts_after texts node) below) ∙ sym size
+
   by_test : (b : Bool) → is_cloud_or_blob node.attrs ≡ b
       → preorder (element node.name (placed_node texts node).attrs node.text children) ≡ placed_nodes texts (node ∷ below)
   by_test true e = rw (same_size, later, e) refl
@@ -157,12 +156,18 @@ facts_of-with_place : (name : List ℕ) (attrs : List Attr) (text value : List �
 unfolding facts_of
 facts_of-with_place name attrs text value readable old =
     let place : is_some (option_and_then unsigned_in (value_of place_name (with_value place_name value attrs))) ≡ is_some (option_and_then unsigned_in (value_of place_name attrs)) =
-        ap (λ o. is_some (option_and_then unsigned_in o)) (value_of-with_value place_name value attrs) ∙ readable_place (value_of place_name attrs) value old readable in
-    rw (type_in-with_place value attrs, place,
-        value_of-with_other place_name value (codes "minimum") attrs refl, value_of-with_other place_name value (codes "maximum") attrs refl,
-        value_of-with_other place_name value (codes "scale") attrs refl, value_of-with_other place_name value (codes "offset") attrs refl,
-        value_of-with_other place_name value (codes "precision") attrs refl, value_of-with_other place_name value (codes "recordCount") attrs refl,
-        value_of-with_other place_name value (codes "length") attrs refl) refl
+    ap (λ o. is_some (option_and_then unsigned_in o)) (value_of-with_value place_name value attrs) ∙ readable_place (value_of place_name attrs) value old readable in
+    rw (
+      type_in-with_place value attrs,
+      place,
+      value_of-with_other place_name value (codes "minimum") attrs refl,
+      value_of-with_other place_name value (codes "maximum") attrs refl,
+      value_of-with_other place_name value (codes "scale") attrs refl,
+      value_of-with_other place_name value (codes "offset") attrs refl,
+      value_of-with_other place_name value (codes "precision") attrs refl,
+      value_of-with_other place_name value (codes "recordCount") attrs refl,
+      value_of-with_other place_name value (codes "length") attrs refl,
+    ) refl
 
 first_readable : (texts : List (List ℕ)) → 0 < length texts → AreReadable texts → is_some (unsigned_in (slice_index_or texts 0 [])) ≡ true
 first_readable [] some all = absurd (omega arith)
@@ -211,7 +216,7 @@ mutual
       let node = node_of name attrs text children in
       ap shape_of (with_places-is texts name attrs text children)
       ∙ ap (λ below. shape (facts_of name (placed_node texts node).attrs text) below)
-        (shapes_of-with_places_all (texts_after texts node) children (enough_after texts node (preorder_all children) enough) (texts_after_readable texts node readable) placed.1)
+      (shapes_of-with_places_all (texts_after texts node) children (enough_after texts node (preorder_all children) enough) (texts_after_readable texts node readable) placed.1)
       ∙ ap (λ facts. shape facts (shapes_of children)) (placed_facts texts node (preorder_all children) enough readable placed.0)
 
   pub shapes_of-with_places_all : (texts : List (List ℕ)) (es : Elements) → item_count (preorder_all es) ≤ length texts → AreReadable texts → ArePlaced (preorder_all es)
@@ -222,7 +227,7 @@ mutual
       let count = item_count-append (preorder e) (preorder_all es) in
       ap (λ s. shapes s (shapes_of (with_places_all (drop (length (places_in e)) texts) es))) (shape_of-with_places texts e (omega arith) readable parts.0)
       ∙ ap (λ ss. shapes (shape_of e) ss)
-        (shapes_of-with_places_all (drop (length (places_in e)) texts) es (omega (arith, length-drop (length (places_in e)) texts)) (drop_readable (length (places_in e)) texts readable) parts.1)
+      (shapes_of-with_places_all (drop (length (places_in e)) texts) es (omega (arith, length-drop (length (places_in e)) texts)) (drop_readable (length (places_in e)) texts readable) parts.1)
 
 -- ---- how deep it reaches
 
@@ -251,6 +256,7 @@ texts_after_characters texts node all = by_test (is_cloud_or_blob node.attrs) re
   dropped : (ts : List (List ℕ)) → AreTexts ts → AreTexts (drop 1 ts)
   dropped [] all = tt
   dropped (t ∷ ts) all = all.1
+
   by_test : (b : Bool) → is_cloud_or_blob node.attrs ≡ b → AreTexts (texts_after texts node)
   by_test true e = rw e (dropped texts all)
   by_test false e = rw e all
@@ -259,6 +265,7 @@ placed_lawful : (texts : List (List ℕ)) (node : RawNode) → AreTexts texts �
 placed_lawful texts node all h = by_test (is_cloud_or_blob node.attrs) refl where
   value : List ℕ
   value = slice_index_or texts 0 []
+
   revalued_lawful : IsLawfulNode (record { name = node.name; attrs = with_value place_name value node.attrs; text = node.text; size = node.size })
   revalued_lawful = record {
     is_name = h.is_name;
@@ -269,6 +276,7 @@ placed_lawful texts node all h = by_test (is_cloud_or_blob node.attrs) refl wher
     text = h.text;
     no_space = h.no_space;
   }
+
   by_test : (b : Bool) → is_cloud_or_blob node.attrs ≡ b → IsLawfulNode (placed_node texts node)
   by_test true e = rw e revalued_lawful
   by_test false e = rw e h
@@ -320,6 +328,7 @@ places_back places (node ∷ nodes) same small placed =
   where
     Back : List ℕ → Type 0
     Back ps = filter_map stated_place (placed_nodes (map decimal ps) (node ∷ nodes)) ≡ ps
+
     by_test : (ps : List ℕ) → length ps ≡ item_count (node ∷ nodes) → AllByRecursion (λ n. n < 2 ^ 64) ps
         → ((qs : List ℕ) → length qs ≡ item_count nodes → AllByRecursion (λ n. n < 2 ^ 64) qs → filter_map stated_place (placed_nodes (map decimal qs) nodes) ≡ qs)
         → (b : Bool) → is_cloud_or_blob node.attrs ≡ b → filter_map stated_place (placed_nodes (map decimal ps) (node ∷ nodes)) ≡ ps
@@ -349,8 +358,10 @@ placed_count texts [] = refl
 placed_count texts (node ∷ nodes) = by_test (placed_count (texts_after texts node) nodes) (is_cloud_or_blob node.attrs) refl where
   rest : List RawNode
   rest = placed_nodes (texts_after texts node) nodes
+
   new : RawNode
   new = record { name = node.name; attrs = with_value place_name (slice_index_or texts 0 []) node.attrs; text = node.text; size = node.size }
+
   by_test : item_count rest ≡ item_count nodes → (b : Bool) → is_cloud_or_blob node.attrs ≡ b → item_count (placed_nodes texts (node ∷ nodes)) ≡ item_count (node ∷ nodes)
   by_test ih true e =
       ap (λ (b : Bool). item_count (cond b new node ∷ rest)) e ∙ item_count-item new rest (is_item-with_place (slice_index_or texts 0 []) node.attrs ∙ e)
@@ -369,6 +380,7 @@ mutual
     where
       new : List Attr
       new = with_value place_name (slice_index_or first 0 []) attrs
+
       by_test : with_places_all (drop 1 second) (with_places_all (drop 1 first) children) ≡ with_places_all (drop 1 second) children
           → with_places_all second (with_places_all first children) ≡ with_places_all second children
           → (b : Bool) → is_cloud_or_blob attrs ≡ b → with_places second (with_places first (element name attrs text children)) ≡ with_places second (element name attrs text children)

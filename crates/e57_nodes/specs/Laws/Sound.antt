@@ -1,6 +1,6 @@
 -- A tree without a fault has sound clouds and blobs.
-use Rattle.std.proofs.Common.{◌≡◌, ℕ, zero, suc, ◌+◌, ◌^◌, ◌<◌, ◌≤◌, ◌⊎◌, inl, inr, Bool, true, false, cond, not, ◌&&◌, ◌||◌, T, ltb, leb, eqb, List, [], ◌∷◌, ◌++◌, length, map, Option, Some, None, is_some, ℤ, pos, negsuc, neg_ℤ, ◌≤ℤ◌, refl, sym, ap, subst, ◌∙◌, arith, lit<}
-use Rattle.std.specs.Prelude.{codes, find, slice_get, unwrap_or, option_map, option_and_then, int_lt}
+use Rattle.std.proofs.Common.{◌≡◌, ℕ, zero, suc, ◌+◌, ◌^◌, ◌<◌, ◌≤◌, ◌⊎◌, inl, inr, Bool, true, false, cond, not, ◌&&◌, ◌||◌, T, ltb, leb, eqb, List, [], ◌∷◌, ◌++◌, length, Option, Some, None, ℤ, pos, neg_ℤ, ◌≤ℤ◌, refl, sym, subst, arith, lit<}
+use Rattle.std.specs.Prelude.{codes, find, unwrap_or, option_map, option_and_then, int_lt}
 use Rattle.std.specs.Option.{option_or}
 use Rattle.std.specs.Int.Signed.{mag, lt_z_no}
 use Rattle.std.specs.List.{AllByRecursion, filter_map, cons_option, list_all}
@@ -14,18 +14,17 @@ use Rattle.e57_pieces.specs.declared.piece.Attr.{Attr}
 use Rattle.e57_pieces.specs.Words.{is_decimal, numeral}
 use Rattle.e57_elements.specs.Tree.{Element, element, Elements, none, more}
 use Rattle.e57_layout.specs.declared.field.Field.{Field}
-use Rattle.e57_layout.specs.declared.field.FieldKind.{FieldKind}
-use Rattle.e57_layout.specs.declared.field.FieldKind.TheVariants.{Int, Scaled, Bits32, Bits64, Text}
-use Rattle.e57_layout.specs.Values.{ItemKind, integers, words, strings, item_kind, kind_width, AreLimits, IsValidField}
+use Rattle.e57_layout.specs.declared.field.FieldKind.TheVariants.{Bits32, Bits64}
+use Rattle.e57_layout.specs.Values.{ItemKind, integers, words, strings, item_kind, IsValidField}
 use Rattle.e57_layout.specs.Laws.Widths.{width-le}
 use Rattle.e57_sections.specs.Section.{when}
 use Rattle.e57_nodes.specs.declared.ElementType.{ElementType}
 use Rattle.e57_nodes.specs.declared.ElementType.TheVariants as element_type
-use Rattle.e57_nodes.specs.Facts.{when_below, digits_below, signed_from, unsigned_from, signed_in, unsigned_in, trimmed, value_of, read_or, precision_named, least_integer, greatest_integer, type_in, Facts, facts_of}
+use Rattle.e57_nodes.specs.Facts.{when_below, digits_below, signed_from, unsigned_from, signed_in, unsigned_in, trimmed, value_of, read_or, precision_named, least_integer, greatest_integer, Facts, facts_of}
 use Rattle.e57_nodes.specs.Shape.{Shape, shape, Shapes, no_shapes, shapes, shape_of, shapes_of, node_count, node_count_all, Node, node_at, children_from, children_of, nodes_from, nodes_from_all, nodes_below}
 use Rattle.e57_nodes.specs.Paths.{counts_children, child_path}
 use Rattle.e57_nodes.specs.Fields.{child_named, float_kind, kind_of, field_at, fields_from, fields_from_all, fields_below, fields_of}
-use Rattle.e57_nodes.specs.Typed.{max_records, max_fields, unread, type_fault, name_fault, child_fault, attr_fault, integer_fault, order_fault, limits_fault, codecs_fault, prototype_fault, field_count_fault, compressed_vector_fault, node_fault, names_differ, namesake_of, tree_fault, trees_fault, typed_fault}
+use Rattle.e57_nodes.specs.Typed.{max_records, max_fields, type_fault, name_fault, child_fault, attr_fault, order_fault, limits_fault, codecs_fault, prototype_fault, field_count_fault, compressed_vector_fault, node_fault, names_differ, namesake_of, tree_fault, trees_fault, typed_fault}
 use Rattle.e57_nodes.specs.Items.{StatedItem, stated_cloud, stated_blob, stated_by, stated_item, stated_items}
 
 -- ---- what is promised
@@ -362,6 +361,7 @@ items-append nodes (x ∷ xs) ys f g = (f.0, items-append nodes xs ys f.1 g)
 
 mutual
   unfolding stated_item
+
   sound_items_from : (nodes n : ℕ) (s : Shape) → n + node_count s ≤ nodes → AreSound (nodes_from n s) → AllByRecursion (IsSoundItem nodes) (filter_map stated_item (nodes_from n s))
   sound_items_from nodes n (shape facts below) few sound =
       let x = node_at n (shape facts below) in

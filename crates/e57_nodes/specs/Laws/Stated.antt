@@ -1,8 +1,6 @@
 -- The places and the clouds and blobs of a tree without a fault: each has a readable place, and there are as many of one as of the other.
-use Rattle.std.proofs.Common.{◌≡◌, ℕ, suc, ◌+◌, Bool, true, false, not, List, [], ◌∷◌, ◌++◌, length, Option, Some, None, is_some, refl, sym, ap, ◌∙◌, arith, length-append}
-use Rattle.std.specs.Prelude.{option_and_then}
-use Rattle.std.specs.Option.{option_or}
-use Rattle.std.specs.List.{AllByRecursion, filter_map, cons_option}
+use Rattle.std.proofs.Common.{◌≡◌, ℕ, ◌+◌, Bool, true, false, not, List, [], ◌∷◌, ◌++◌, length, Option, Some, None, refl, sym, ap, ◌∙◌, arith, length-append}
+use Rattle.std.specs.List.{filter_map, cons_option}
 use Rattle.std.proofs.lemmas.List.Elements.{filter_map-append}
 use Rattle.e57_base.specs.declared.kind.Kind.TheVariants as kind
 use Rattle.e57_base.specs.Fault.{fault}
@@ -12,13 +10,13 @@ use Rattle.e57_elements.specs.Tree.{Element, element, Elements, none, more, preo
 use Rattle.e57_sections.specs.Section.{when}
 use Rattle.e57_nodes.specs.declared.ElementType.{ElementType}
 use Rattle.e57_nodes.specs.declared.ElementType.TheVariants as element_type
-use Rattle.e57_nodes.specs.Facts.{value_of, unsigned_in, type_in, Facts, facts_of}
-use Rattle.e57_nodes.specs.Shape.{Shape, shape, Shapes, no_shapes, shapes, shape_of, shapes_of, node_count, Node, node_at, nodes_from, nodes_from_all}
-use Rattle.e57_nodes.specs.Places.{has_section, is_cloud_or_blob, place_name, stated_place, places_in}
+use Rattle.e57_nodes.specs.Facts.{type_in, Facts, facts_of}
+use Rattle.e57_nodes.specs.Shape.{shape_of, shapes_of, node_count, Node, node_at, nodes_from, nodes_from_all}
+use Rattle.e57_nodes.specs.Places.{has_section, stated_place, places_in}
 use Rattle.e57_nodes.specs.Typed.{unread, attr_fault, typed_fault}
-use Rattle.e57_nodes.specs.Items.{StatedItem, stated_by, stated_item, stated_items}
+use Rattle.e57_nodes.specs.Items.{stated_by, stated_item, stated_items}
 use Rattle.e57_nodes.specs.Laws.Places.{IsPlaced, ArePlaced, item_count}
-use Rattle.e57_nodes.specs.Laws.Sound.{IsSound, AreSound, sound_nodes, option_or-none, when-none}
+use Rattle.e57_nodes.specs.Laws.Sound.{AreSound, sound_nodes, option_or-none, when-none}
 
 -- ---- readable places
 
@@ -88,7 +86,7 @@ length-before (Some x) xs = omega arith
 
 one_element : (n : ℕ) (name : List ℕ) (attrs : List Attr) (text : List ℕ) (children : Elements)
     → length (cons_option (stated_item (node_at n (shape_of (element name attrs text children)))) [])
-      ≡ length (cons_option (stated_place (record { name = name; attrs = attrs; text = text; size = length (preorder_all children) + 1 })) [])
+    ≡ length (cons_option (stated_place (record { name = name; attrs = attrs; text = text; size = length (preorder_all children) + 1 })) [])
 unfolding stated_item facts_of
 one_element n name attrs text children = one_each (node_at n (shape_of (element name attrs text children))) (type_in attrs) (record { name = name; attrs = attrs; text = text; size = length (preorder_all children) + 1 }) refl
 

@@ -1,15 +1,15 @@
 -- The elements of a list of nodes, and one element after another by number.
-use Rattle.std.proofs.Common.{◌≡◌, ℕ, zero, suc, ◌+◌, ◌-◌, ◌<◌, ◌≤◌, Bool, true, false, ltb, List, [], ◌∷◌, ◌++◌, length, take, drop, get_or, refl, sym, ap, subst, ◌∙◌, arith, append_assoc, length-append, length-take, length-drop, add-one, add-zero}
-use Rattle.std.proofs.lemmas.List.{append-nil, get_or-drop, drop-drop, drop-take, take-take}
-use Rattle.std.proofs.Math.Seq.{drop-cons, take-append_seam, drop-append_seam}
+use Rattle.std.proofs.Common.{◌≡◌, ℕ, zero, suc, ◌+◌, ◌-◌, ◌<◌, ◌≤◌, Bool, true, false, ltb, List, [], ◌∷◌, ◌++◌, length, take, drop, get_or, refl, sym, ap, subst, ◌∙◌, arith, append_assoc, length-append, add-zero}
+use Rattle.std.proofs.lemmas.List.{append-nil, get_or-drop, drop-drop}
+use Rattle.std.proofs.Math.Seq.{take-append_seam, drop-append_seam}
 use Rattle.e57_elements.specs.declared.tree.RawNode.{RawNode}
 use Rattle.e57_elements.specs.Tree.{Element, element, Elements, none, more, preorder, preorder_all}
 use Rattle.std.proofs.Math.Nat.{le_refl}
 use Rattle.std.proofs.lemmas.Bool.{ltb-true, ltb-false}
 use Rattle.e57_pieces.specs.declared.piece.Attr.{Attr}
 use Rattle.e57_elements.specs.Lawful.{AreNodes}
-use Rattle.e57_nodes.specs.Shape.{Shape, shape, Shapes, no_shapes, shapes, shape_of, shapes_of, node_count, node_count_all, Node, node_at, children_from, children_of}
-use Rattle.e57_tree.specs.Flat.{elements_of, first_element, tree_of, no_node, raw_at, facts_in, nodes_between, shapes_between, end_of, node_in, shape_in, AreElements}
+use Rattle.e57_nodes.specs.Shape.{shape, no_shapes, shapes, shape_of, shapes_of, node_count, node_count_all}
+use Rattle.e57_tree.specs.Flat.{elements_of, first_element, tree_of, no_node, raw_at, facts_in, shapes_between, end_of, shape_in, AreElements}
 
 -- ---- the elements of their nodes
 
@@ -191,7 +191,7 @@ node_inside nodes n h l =
 pub shape_in-root : (e : Element) → shape_in (preorder e) 0 ≡ shape_of e
 shape_in-root (element name attrs text children) =
     let parts : drop 0 (preorder (element name attrs text children)) ≡ preorder_all (more (element name attrs text children) none) ++ [] =
-        sym (append-nil (preorder (element name attrs text children) ++ []) ∙ append-nil (preorder (element name attrs text children))) in
+    sym (append-nil (preorder (element name attrs text children) ++ []) ∙ append-nil (preorder (element name attrs text children))) in
     let split = splits (preorder (element name attrs text children)) 0 name attrs text children none [] parts in
     ap (λ ss. shape (facts_in (node_of name attrs text children)) ss)
     (shapes_between-is (preorder (element name attrs text children)) 1 (end_of (preorder (element name attrs text children)) 0) children (preorder_all none ++ []) split.behind split.number)

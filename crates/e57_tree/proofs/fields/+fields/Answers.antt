@@ -1,14 +1,13 @@
-use Rattle.std.proofs.Common.{◌≡◌, ◌+◌, ◌-◌, ◌<◌, ◌≤◌, ◌++◌, ◌∷◌, ℕ, List, length, take, cond, refl, ◌∙◌, sym, ap, arith, append_assoc}
+use Rattle.std.proofs.Common.{◌≡◌, ◌+◌, ◌++◌, ◌∷◌, ℕ, List, length, take, cond, refl, ◌∙◌, sym, ap, arith, append_assoc}
 use Rattle.std.specs.Fmt.{decimal}
 use Rattle.std.proofs.Math.Seq.{take-append_seam}
 use Rattle.e57_elements.specs.declared.tree.RawNode.{RawNode}
 use Rattle.e57_layout.specs.declared.field.Field.{Field}
 use Rattle.e57_nodes.specs.Paths.{counts_children}
-use Rattle.e57_nodes.specs.Facts.{type_in}
-use Rattle.e57_tree.specs.Flat.{raw_at, facts_in, end_of}
+use Rattle.e57_tree.specs.Flat.{raw_at, end_of}
 use Rattle.e57_tree.specs.Paths.{fields_in, named_path, own_field}
 use Rattle.e57_tree.proofs.Children.{type_read}
-use Rattle.e57_tree.proofs.Adding.{IsAdding, adding_goes_on, adding_ends, fields_left}
+use Rattle.e57_tree.proofs.Adding.{adding_goes_on, adding_ends, fields_left}
 use Rattle.e57_tree.proofs.fields.+fields.Goals as goal
 
 pub add-returns-clause-fields : goal.add-returns-clause-fields
@@ -25,9 +24,9 @@ add_below-loop-child-preserved t c =
     let name = c.as_slice.ensures ∙ ap (λ (x : RawNode). x.name) c.node.ensures in
     let long = c.loop-child.invariant.own ∙ ap length c.loop-child.invariant.path in
     let path : c.truncate.new.self.items ≡ c.args.path.now.items =
-        c.truncate.ensures.items ∙ ap (take c.len-own.result) (c.in_ok-add.ensures.path ∙ named)
-        ∙ ap (λ k. take k (named_path c.counts_children-counted.result c.args.path.now.items c.loop-child.position c.as_slice.result.now)) long
-        ∙ take-append_seam c.args.path.now.items (47 ∷ (cond c.counts_children-counted.result (decimal c.loop-child.position) c.as_slice.result.now)) in
+    c.truncate.ensures.items ∙ ap (take c.len-own.result) (c.in_ok-add.ensures.path ∙ named)
+    ∙ ap (λ k. take k (named_path c.counts_children-counted.result c.args.path.now.items c.loop-child.position c.as_slice.result.now)) long
+    ∙ take-append_seam c.args.path.now.items (47 ∷ (cond c.counts_children-counted.result (decimal c.loop-child.position) c.as_slice.result.now)) in
     record {
       after = omega arith;
       few = omega arith;
@@ -45,4 +44,4 @@ add_below-returns-clause-fields t c =
     c.loop-child.invariant.adding c.loop-child-test.false
     ∙ ap (λ e. c.args.fields.now.items ++ fields_left c.counts_children-counted.result c.args.path.now.items 0 c.args.raw.now (c.args.n + 1) e) c.end_of-end.ensures.end
     ∙ ap (λ d. c.args.fields.now.items ++ fields_left d c.args.path.now.items 0 c.args.raw.now (c.args.n + 1) (end_of c.args.raw.now c.args.n))
-      (c.counts_children-counted.ensures ∙ ap counts_children (c.type_of.ensures ∙ sym (type_read (raw_at c.args.raw.now c.args.n))))
+    (c.counts_children-counted.ensures ∙ ap counts_children (c.type_of.ensures ∙ sym (type_read (raw_at c.args.raw.now c.args.n))))

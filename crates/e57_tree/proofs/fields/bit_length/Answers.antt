@@ -1,4 +1,4 @@
-use Rattle.std.proofs.Common.{◌≡◌, ◌+◌, ◌-◌, ◌∙◌, sym, ap, arith}
+use Rattle.std.proofs.Common.{◌≡◌, ◌-◌, ◌∙◌, ap, arith}
 use Rattle.e57_layout.specs.Widths.{bit_length}
 use Rattle.e57_tree.proofs.Adding.{halves, bits_none}
 use Rattle.e57_tree.proofs.fields.bit_length.Goals as goal

@@ -1,4 +1,4 @@
-use Rattle.std.proofs.Common.{◌≡◌, ◌-◌, ◌<◌, length}
+use Rattle.std.proofs.Common.{◌-◌, ◌<◌, length}
 use Rattle.e57_tree.proofs.Judged.{GoesOn}
 use Rattle.e57_tree.proofs.judge.+judge.Given as goal
 

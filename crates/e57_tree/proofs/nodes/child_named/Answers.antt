@@ -9,7 +9,7 @@ use Rattle.e57_tree.proofs.nodes.child_named.Goals as goal
 pub returns-then-eq-clause-child : goal.returns-then-eq-clause-child
 returns-then-eq-clause-child c =
     let same : bytes_eq (raw_at c.args.raw.now c.loop-child.child).name c.args.name.now ≡ true =
-        ap (λ (x : RawNode). bytes_eq x.name c.args.name.now) (sym c.node.ensures) ∙ ap (λ n. bytes_eq n c.args.name.now) (sym c.as_slice.ensures) ∙ sym c.eq.ensures ∙ c.if-eq.true in
+    ap (λ (x : RawNode). bytes_eq x.name c.args.name.now) (sym c.node.ensures) ∙ ap (λ n. bytes_eq n c.args.name.now) (sym c.as_slice.ensures) ∙ sym c.eq.ensures ∙ c.if-eq.true in
     sym (ap (λ e. child_named c.args.name.now (children_at c.args.raw.now (c.args.n + 1) e)) (sym c.end_of-end.ensures.end)
     ∙ sym c.loop-child.invariant.same
     ∙ named_here c.args.name.now c.args.raw.now c.loop-child.child c.end_of-end.result c.loop-child.invariant.elements c.loop-child-test.true same)
@@ -17,7 +17,7 @@ returns-then-eq-clause-child c =
 pub loop-child-preserved : goal.loop-child-preserved
 loop-child-preserved c =
     let other : bytes_eq (raw_at c.args.raw.now c.loop-child.child).name c.args.name.now ≡ false =
-        ap (λ (x : RawNode). bytes_eq x.name c.args.name.now) (sym c.node.ensures) ∙ ap (λ n. bytes_eq n c.args.name.now) (sym c.as_slice.ensures) ∙ sym c.eq.ensures ∙ c.if-eq.false in
+    ap (λ (x : RawNode). bytes_eq x.name c.args.name.now) (sym c.node.ensures) ∙ ap (λ n. bytes_eq n c.args.name.now) (sym c.as_slice.ensures) ∙ sym c.eq.ensures ∙ c.if-eq.false in
     record {
       elements = elements_step c.args.raw.now c.loop-child.child c.end_of-end.result c.end_of-child.result c.end_of-child.ensures.end c.loop-child.invariant.elements c.loop-child-test.true;
       same =

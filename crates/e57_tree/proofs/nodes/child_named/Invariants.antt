@@ -1,4 +1,4 @@
-use Rattle.std.proofs.Common.{◌≡◌, ◌+◌, ◌-◌, ◌<◌}
+use Rattle.std.proofs.Common.{◌≡◌, ◌+◌, ◌-◌}
 use Rattle.e57_nodes.specs.Fields.{child_named}
 use Rattle.e57_tree.specs.Flat.{AreElements}
 use Rattle.e57_tree.proofs.Children.{children_at}

@@ -1,4 +1,4 @@
-use Rattle.std.proofs.Common.{◌≡◌, ◌+◌, ◌∙◌, sym, ap}
+use Rattle.std.proofs.Common.{◌+◌, ◌∙◌, sym, ap}
 use Rattle.std.specs.Prelude.{slice_get}
 use Rattle.e57_tree.proofs.Children.{children_at, first_here, first_nothing}
 use Rattle.e57_tree.proofs.nodes.first_child.Goals as goal

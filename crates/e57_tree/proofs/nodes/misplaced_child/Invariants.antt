@@ -1,4 +1,4 @@
-use Rattle.std.proofs.Common.{◌≡◌, ◌+◌, ◌-◌, ◌<◌}
+use Rattle.std.proofs.Common.{◌≡◌, ◌+◌, ◌-◌}
 use Rattle.std.specs.Prelude.{find}
 use Rattle.e57_nodes.specs.Typed.{is_misplaced}
 use Rattle.e57_tree.specs.Flat.{AreElements}

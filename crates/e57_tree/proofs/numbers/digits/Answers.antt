@@ -1,8 +1,6 @@
-use Rattle.std.proofs.Common.{◌≡◌, ◌<◌, ◌≤◌, length, Some, None, ◌∙◌, sym, ap, arith}
+use Rattle.std.proofs.Common.{length, ◌∙◌, sym, arith}
 use Rattle.std.proofs.lemmas.Bool.{eqb-false}
-use Rattle.e57_nodes.specs.Facts.{digits_below}
-use Rattle.e57_tree.specs.Numbers.{appended}
-use Rattle.e57_tree.proofs.Digits.{found_after, found_go, found_stop, found_done, digits_found}
+use Rattle.e57_tree.proofs.Digits.{found_go, found_stop, found_done, digits_found}
 use Rattle.e57_tree.proofs.numbers.digits.Goals as goal
 
 pub returns-in_err-number : goal.returns-in_err-number

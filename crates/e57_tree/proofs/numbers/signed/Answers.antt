@@ -1,4 +1,4 @@
-use Rattle.std.proofs.Common.{◌≡◌, ◌^◌, ◌∙◌, sym, ap, arith}
+use Rattle.std.proofs.Common.{◌^◌, ◌∙◌, sym, ap, arith}
 use Rattle.e57_nodes.specs.Facts.{digits_below, signed_in, signed_from}
 use Rattle.e57_tree.specs.Numbers.{positive_from, negative_from}
 use Rattle.e57_tree.proofs.Digits.{signed_minus, signed_plus, signed_plain}

@@ -1,4 +1,4 @@
-use Rattle.std.proofs.Common.{◌≡◌, ◌-◌, suc, length, ◌∙◌, sym, ap, reverse, take, arith}
+use Rattle.std.proofs.Common.{◌≡◌, ◌-◌, suc, ◌∙◌, sym, ap, reverse, take, arith}
 use Rattle.e57_nodes.specs.Facts.{without_space}
 use Rattle.e57_tree.proofs.Spaces.{back_more, back_stop, back_all}
 use Rattle.e57_tree.proofs.numbers.trimmed_end.Goals as goal

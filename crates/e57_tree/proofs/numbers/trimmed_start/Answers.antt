@@ -1,4 +1,4 @@
-use Rattle.std.proofs.Common.{◌≡◌, length, ◌∙◌, sym}
+use Rattle.std.proofs.Common.{length, ◌∙◌, sym}
 use Rattle.e57_tree.proofs.Lists.{drop-all}
 use Rattle.e57_tree.proofs.Spaces.{front_more, front_stop, front_all}
 use Rattle.std.proofs.Math.Nat.{le_refl}

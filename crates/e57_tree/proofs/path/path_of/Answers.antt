@@ -1,4 +1,4 @@
-use Rattle.std.proofs.Common.{◌≡◌, ◌<◌, ℕ, List, [], ◌∙◌, sym, ap, subst, arith}
+use Rattle.std.proofs.Common.{◌<◌, ℕ, List, ◌∙◌, sym, ap, subst, arith}
 use Rattle.e57_elements.specs.declared.tree.RawNode.{RawNode}
 use Rattle.e57_nodes.specs.Paths.{counts_children}
 use Rattle.e57_tree.specs.Flat.{raw_at, facts_in}
@@ -27,6 +27,6 @@ loop-n-preserved c =
       same =
           ap (λ (p : List ℕ). path_in c.args.raw.now child p c.args.wanted)
           (c.in_ok-push_child.ensures ∙ ap (λ d. named_path d c.loop-n.path.items position c.as_slice.result.now) counted
-            ∙ ap (λ m. named_path (counts_children (facts_in (raw_at c.args.raw.now c.loop-n.n)).element_type) c.loop-n.path.items position m) name)
+          ∙ ap (λ m. named_path (counts_children (facts_in (raw_at c.args.raw.now c.loop-n.n)).element_type) c.loop-n.path.items position m) name)
           ∙ sym (step.path c.loop-n.path.items) ∙ c.loop-n.invariant.same;
     }

@@ -1,4 +1,4 @@
-use Rattle.std.proofs.Common.{◌≡◌, ◌-◌, ◌<◌, ◌≤◌, [], length}
+use Rattle.std.proofs.Common.{◌≡◌, ◌-◌, ◌<◌, ◌≤◌, []}
 use Rattle.e57_tree.specs.Flat.{end_of}
 use Rattle.e57_tree.specs.Paths.{path_in}
 use Rattle.e57_tree.proofs.path.path_of.Given as goal

@@ -1,5 +1,5 @@
-use Rattle.std.proofs.Common.{◌≡◌, ◌+◌, ◌++◌, ◌∷◌, drop, ◌∙◌, ap}
-use Rattle.e57_tree.proofs.Copied.{copies_go_on, copies_end}
+use Rattle.std.proofs.Common.{◌+◌, ◌++◌, drop, ◌∙◌, ap}
+use Rattle.e57_tree.proofs.Copied.{copies_go_on}
 use Rattle.e57_tree.proofs.places.copied.Goals as goal
 
 pub loop-i-preserved : goal.loop-i-preserved

@@ -1,4 +1,4 @@
-use Rattle.std.proofs.Common.{◌≡◌, Option, Some, None, ◌∙◌, sym, ap, length}
+use Rattle.std.proofs.Common.{Option, ◌∙◌, sym, ap, length}
 use Rattle.std.specs.Prelude.{codes}
 use Rattle.std.specs.Option.{option_or}
 use Rattle.e57_base.specs.declared.fault.Fault.{Fault}

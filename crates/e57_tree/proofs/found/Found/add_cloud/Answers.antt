@@ -1,4 +1,4 @@
-use Rattle.std.proofs.Common.{◌≡◌, ◌++◌, ◌∷◌, [], List, refl, ◌∙◌, sym, ap, rules}
+use Rattle.std.proofs.Common.{◌++◌, ◌∷◌, [], List, refl, ◌∙◌, ap, rules}
 use Rattle.e57_layout.specs.declared.field.Field.{Field}
 use Rattle.e57_tree.specs.declared.items.Cloud.{Cloud}
 use Rattle.e57_tree.proofs.found.Found.add_cloud.Goals as goal

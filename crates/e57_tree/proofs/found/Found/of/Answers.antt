@@ -1,5 +1,5 @@
 use Rattle.std.proofs.Common.{arith}
-use Rattle.e57_tree.proofs.Finding.{finding_begins, finding_goes_on, finding_ends}
+use Rattle.e57_tree.proofs.Finding.{finding_goes_on, finding_ends}
 use Rattle.e57_tree.proofs.found.Found.of.Goals as goal
 
 pub loop-n-preserved : goal.loop-n-preserved

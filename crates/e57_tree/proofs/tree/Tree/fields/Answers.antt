@@ -1,4 +1,4 @@
-use Rattle.std.proofs.Common.{◌≡◌, ◌<◌, length, get_or, Some, slice_get, refl, ◌∙◌, sym, ap, arith}
+use Rattle.std.proofs.Common.{length, Some, refl, ◌∙◌, sym, ap, arith}
 use Rattle.std.proofs.lemmas.Option.{slice_get_read}
 use Rattle.e57_tree.proofs.Whole.{enough_fields, fields_at, fields_valid}
 use Rattle.e57_tree.proofs.tree.Tree.fields.Goals as goal

@@ -1,4 +1,4 @@
-use Rattle.std.proofs.Common.{◌≡◌, ◌∙◌, sym, map, length}
+use Rattle.std.proofs.Common.{◌∙◌, sym, map, length}
 use Rattle.std.specs.Fmt.{decimal}
 use Rattle.e57_elements.specs.Tree.{preorder}
 use Rattle.e57_nodes.specs.Places.{with_places}
