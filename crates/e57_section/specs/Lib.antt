@@ -1,0 +1,5 @@
+pub mod Asking
+pub mod Opening
+pub mod Streams
+pub mod Steps
+pub mod Loading
