@@ -2,7 +2,9 @@
 
 ghost use Rattle.std.specs.Prelude.{None};
 
+use crate::read_ahead::ReadAhead;
 use e57_base::{Failed, Source};
+use std::alloc::Global;
 use std::fs::{File, OpenFile};
 use std::os::unix::fs::FileExt;
 use std::rt::Files;
@@ -13,16 +15,19 @@ use std::{fs, io};
 pub struct DiskSource<'a, R: Files<File = File>> {
     files: &'a R,
     file: Option<File>,
+    ahead: ReadAhead,
     size: Option<u64>,
     opened: u64,
     faults: u64,
 }
 
 impl<'a, R: Files<File = File>> DiskSource<'a, R> {
-    pub fn new(files: &'a R) -> Self {
+    /// No file is open. Memory is taken for 64 pages that are read ahead; without it each page is read by itself.
+    pub fn new(alloc: Global, files: &'a R) -> Self {
         DiskSource {
             files,
             file: None,
+            ahead: ReadAhead::new(alloc),
             size: None,
             opened: 0,
             faults: 0,
@@ -40,6 +45,13 @@ fn open_file<R: Files<File = File>>(files: &R, name: &str) -> io::Result<(File, 
     Ok((file, metadata.len()))
 }
 
+// Reads the bytes behind the whole pages of a file of `size` bytes, with zeros behind them, and whether it could.
+fn read_rest_of(file: &File, size: u64, out: &mut [u8; 1024]) -> bool {
+    let (rest, zeros) = out.split_at_mut((size % 1024) as usize);
+    zeros.fill(0);
+    file.read_exact_at(rest, size - size % 1024).is_ok()
+}
+
 impl<R: Files<File = File>> Source for DiskSource<'_, R> {
     ghost view = { λ s. record { stock = None; size = s.size; held = None; asked = None; opened = s.opened; missed = 0; faults = s.faults } };
 
@@ -47,6 +59,7 @@ impl<R: Files<File = File>> Source for DiskSource<'_, R> {
 
     fn open(&mut self, name: &str) -> Result<u64, Failed> {
         self.opened = self.opened.saturating_add(1);
+        self.ahead.forget();
         match open_file(self.files, name) {
             Ok((file, size)) => {
                 self.file = Some(file);
@@ -63,9 +76,9 @@ impl<R: Files<File = File>> Source for DiskSource<'_, R> {
     }
 
     fn read_page(&mut self, n: u64, out: &mut [u8; 1024]) -> Result<(), Failed> {
-        let is_read = match (&self.file, n.checked_mul(1024)) {
-            (Some(file), Some(at)) => file.read_exact_at(out, at).is_ok(),
-            _ => false,
+        let is_read = match &self.file {
+            Some(file) => self.ahead.read(file, n, out),
+            None => false,
         };
         if is_read {
             return Ok(());
@@ -74,7 +87,14 @@ impl<R: Files<File = File>> Source for DiskSource<'_, R> {
         Err(Failed)
     }
 
-    fn read_rest(&mut self, _out: &mut [u8; 1024]) -> Result<(), Failed> {
+    fn read_rest(&mut self, out: &mut [u8; 1024]) -> Result<(), Failed> {
+        let is_read = match (&self.file, self.size) {
+            (Some(file), Some(size)) => read_rest_of(file, size, out),
+            _ => false,
+        };
+        if is_read {
+            return Ok(());
+        }
         self.faults = self.faults.saturating_add(1);
         Err(Failed)
     }

@@ -3,6 +3,7 @@
 
 mod disk_source;
 mod disk_target;
+mod read_ahead;
 mod std_sink;
 #[cfg(test)]
 mod tests;
@@ -24,10 +25,14 @@ fn words(rt: &HostRuntime) -> io::Result<Vec<String>> {
     Ok(words)
 }
 
-fn main(rt: HostRuntime) -> ExitCode {
-    let mut out = StdSink::new(rt.stdout());
-    let mut err = StdSink::new(rt.stderr());
-    let words = match words(&rt) {
+// Runs the words over files of the disk, and answers the status of the process.
+fn answer<O: Sink, E: Sink>(
+    rt: &HostRuntime,
+    words: io::Result<Vec<String>>,
+    out: &mut O,
+    err: &mut E,
+) -> ExitCode {
+    let words = match words {
         Ok(words) => words,
         Err(error) => {
             if error.kind() == io::ErrorKind::OutOfMemory {
@@ -38,8 +43,14 @@ fn main(rt: HostRuntime) -> ExitCode {
             Vec::new(rt.alloc())
         }
     };
-    let source = DiskSource::new(&rt);
-    let target = DiskTarget::new(&rt);
-    let (status, _, _) = run(rt.alloc(), &words, source, target, &mut out, &mut err);
+    let source = DiskSource::new(rt.alloc(), rt);
+    let target = DiskTarget::new(rt);
+    let (status, _, _) = run(rt.alloc(), &words, source, target, out, err);
     ExitCode::from(status.code())
+}
+
+fn main(rt: HostRuntime) -> ExitCode {
+    let mut out = StdSink::new(rt.stdout());
+    let mut err = StdSink::new(rt.stderr());
+    answer(&rt, words(&rt), &mut out, &mut err)
 }

@@ -75,8 +75,8 @@ pub enum WriteFault {
     Memory,
 }
 
-/// Why a file doesn't have what was asked for of it. `asked` is the number that was asked for, or the place of what is at
-/// fault, and `have` is how many the file has, or the limit.
+/// Why a file doesn't have what was asked for of it. `asked` is the number that was asked for, or the place of what is
+/// at fault; `have` is how many there are, or the limit.
 #[derive(Clone, Copy, Debug, PartialEq, Eq)]
 pub enum AskFault {
     /// The file has fewer clouds.

@@ -1,11 +1,11 @@
 -- A file is opened by its name, and its page 0 is judged.
-use Rattle.std.proofs.Common.{◌≡◌, ℕ, ◌≤◌, Bool, true, false, cond, List, [], ◌∷◌, length, Option, Some, None, Result, Ok, Err, inl, inr, refl, sym, ap, subst, ◌∙◌, arith}
-use Rattle.std.specs.Prelude.{IfSome, MatchOption, MatchResult}
+use Rattle.std.proofs.Common.{◌≡◌, ℕ, Bool, true, false, cond, List, [], length, Option, Some, None, Result, Ok, Err, inl, inr, refl, sym, ap, subst, ◌∙◌, arith}
+use Rattle.std.specs.Prelude.{MatchOption, MatchResult}
 use Rattle.std.specs.Option.{option_or}
 use Rattle.e57_base.specs.Count.{rose_before}
 use Rattle.e57_base.specs.Fault.{fault}
 use Rattle.e57_base.specs.Source.{SourceView, HoldsSize, Opens, Asks, same_file, asks_none}
-use Rattle.e57_base.specs.Opening.{OpensOnce, opens_once, is_open}
+use Rattle.e57_base.specs.Opening.{opens_once, is_open}
 use Rattle.e57_base.specs.Told.{told_map, told_here, length_told}
 use Rattle.e57_base.specs.declared.fault.Failed.{Failed}
 use Rattle.e57_base.specs.declared.fault.Fault.{Fault}
@@ -33,19 +33,13 @@ length_kind n found e = length_kinds _ _ found e where
 first_is : (a b : Option Fault) (found : Fault) → a ≡ Some found → option_or a b ≡ Some found
 first_is a b found e = rw e refl
 
--- the fault is that of the length, and the length has none
-no_length_fault : (known : Option ℕ) (size told : ℕ) (found : Fault) → known ≡ Some size → length_fault size ≡ None → known ≡ Some told → length_fault told ≡ Some found → ⊥
-no_length_fault known size told found is none other some =
-    let same : size ≡ told = cc in
-    let clash : None ≡ Some found = sym none ∙ (ap length_fault same ∙ some) in
-    cc
-
 opened_file : (old mid new : SourceView) (name : List ℕ) (size told : ℕ) (header : Header) → Opens old name (Ok size) mid → HoldsSize mid → IsOpened mid size told header new → IsOpenedFile name old told header new
 opened_file old mid new name size told header opens holds opened =
     let same = opened.source.same in
     record {
       opens = opens_once opens same opened.source.faults;
       file = is_open old mid new name size opens same;
+      size_is = let still : new.size ≡ Some size = same.size ∙ opens.size in rw opened.length still;
       asked = asked_here old.asked mid.asked new.asked _ opens.asked opened.source.asked;
       whole = ap length_fault opened.length ∙ opened.sound;
       sound = told_here (λ file. opening_fault file ≡ None) mid.held new.held same.held opened.first;
@@ -58,8 +52,7 @@ refused_file old mid new name size found opens holds refused = elim (length_faul
   | None ↦ λ none page. record {
     opens = opens_once opens page.source.same page.source.faults;
     file = is_open old mid new name size opens page.source.same;
-    asked = inr (asked_here old.asked mid.asked new.asked _ opens.asked page.source.asked);
-    by_length = λ told known some. absurd (no_length_fault new.size size told found (page.source.same.size ∙ opens.size) none known some);
+    asked = inr (asked_here old.asked mid.asked new.asked _ opens.asked page.source.asked, (size, page.source.same.size ∙ opens.size, none));
     kind = page.kind;
     first = told_here (λ file. opening_fault file ≡ Some found) mid.held new.held page.source.same.held page.first;
   }
@@ -67,7 +60,6 @@ refused_file old mid new name size found opens holds refused = elim (length_faul
     opens = opens_once opens length_wrong.1.same length_wrong.1.faults;
     file = is_open old mid new name size opens length_wrong.1.same;
     asked = inl (asked_here old.asked mid.asked new.asked _ opens.asked length_wrong.1.asked);
-    by_length = λ told known fault_of. asked_here old.asked mid.asked new.asked _ opens.asked length_wrong.1.asked;
     kind = length_kind size found (some ∙ ap Some (sym length_wrong.0));
     first = told_here (λ file. opening_fault file ≡ Some found) mid.held new.held length_wrong.1.same.held (told_map (λ file. length file ≡ size) (λ file. opening_fault file ≡ Some found) mid.held
         (λ file same_length. first_is (length_fault (length file)) _ found (ap length_fault same_length ∙ (some ∙ ap Some (sym length_wrong.0))))
@@ -79,7 +71,7 @@ source_lost : (old mid new : SourceView) (name : List ℕ) (size : ℕ) → Open
 source_lost old mid new name size opens lost =
     record {
       opens = opens_once opens lost.2.same lost.2.faults;
-      asked = inr (asked_here old.asked mid.asked new.asked _ opens.asked lost.2.asked);
+      asked = inr (asked_here old.asked mid.asked new.asked _ opens.asked lost.2.asked, (size, lost.2.same.size ∙ opens.size, lost.0));
       cause = rose_before old.faults mid.faults new.faults opens.faults lost.1;
     }
 

@@ -6,9 +6,9 @@ use Rattle.std.proofs.lemmas.Bool.Decides.{nat_tests}
 use Rattle.std.proofs.lemmas.Slice.{drop-put_mid}
 use Rattle.e57_base.specs.Source.{SourceView, HoldsSize, page_of}
 use Rattle.e57_base.specs.declared.fault.ReadFault.{ReadFault}
-use Rattle.e57_page.specs.Place.{RisesWithin, span_end}
+use Rattle.e57_page.specs.Place.{span_end}
 use Rattle.e57_page.specs.PlaceLaws.{rises_on}
-use Rattle.e57_page.specs.Kept.{is_kept, AreUnkept, KeepsTo}
+use Rattle.e57_page.specs.Kept.{is_kept, KeepsTo}
 use Rattle.e57_page.specs.KeptLaws.{keeps_none, keeps_on, unkept_on}
 use Rattle.e57_page.specs.File.{logical, page_fault, pages_fault}
 use Rattle.e57_page.specs.FileLaws.{pages_fault-zero, pages_fault-more, logical-piece}

@@ -1,5 +1,5 @@
 -- Laws of the pages that are kept.
-use Rattle.std.specs.Prelude.{◌≡◌, ℕ, ◌+◌, ◌<◌, ◌≤◌, ◌⊎◌, Bool, true, false, List, [], ◌∷◌, ◌++◌}
+use Rattle.std.specs.Prelude.{◌≡◌, ℕ, ◌<◌, ◌≤◌, Bool, true, false, List, [], ◌∷◌, ◌++◌}
 use Rattle.std.proofs.Common.{refl, ◌∙◌, inl, inr, arith, ⊎_elim}
 use Rattle.std.proofs.lemmas.Bool.{cases_lt}
 use Rattle.e57_page.specs.Place.{RisesWithin}
@@ -19,20 +19,20 @@ pub keeps_on : (a b c : List ℕ) (low mid end high : ℕ) → low ≤ mid → m
 keeps_on a b c low mid end high begun on first next =
     record {
       last = λ k below near held.
-      ⊎_elim
-      (λ (before : k < mid). next.last k (omega arith) near (inr (first.last k before near held)))
-      (λ (from : mid ≤ k). next.last k below near (inl from))
-      (cases_lt k mid);
+          ⊎_elim
+          (λ (before : k < mid). next.last k (omega arith) near (inr (first.last k before near held)))
+          (λ (from : mid ≤ k). next.last k below near (inl from))
+          (cases_lt k mid);
       later = λ k from below. next.later k from below ∙ first.later k (omega arith) below;
       no_other = λ k held.
-      ⊎_elim
-      (λ (was : is_kept b k ≡ true).
-      ⊎_elim
-      (λ (at_first : is_kept a k ≡ true). inl at_first)
-      (λ (read : (low ≤ k) × (k < mid)). inr (read.0, omega (arith, read.1)))
-      (first.no_other k was))
-      (λ (read : (mid ≤ k) × (k < end)). inr (omega (arith, read.0), read.1))
-      (next.no_other k held);
+          ⊎_elim
+          (λ (was : is_kept b k ≡ true).
+          ⊎_elim
+          (λ (at_first : is_kept a k ≡ true). inl at_first)
+          (λ (read : (low ≤ k) × (k < mid)). inr (read.0, omega (arith, read.1)))
+          (first.no_other k was))
+          (λ (read : (mid ≤ k) × (k < end)). inr (omega (arith, read.0), read.1))
+          (next.no_other k held);
     }
 
 -- pages that aren't kept, and others that aren't

@@ -16,23 +16,23 @@ use Rattle.e57_page.specs.Pages.{is_opening_kind}
 pub record IsOpenedFile (name : List ℕ) (old : SourceView) (size : ℕ) (header : Header) (new : SourceView) : Type 0 where
   pub opens : OpensOnce old name new
   pub file : IsOpen old name new
+  pub size_is : new.size ≡ Some size
   pub asked : Asks old.asked (0 ∷ []) new.asked
   pub whole : length_fault size ≡ None
   pub sound : IfSome new.held (λ file. opening_fault file ≡ None)
   pub long : IfSome new.held (λ file. length file ≡ size)
   pub read : IfSome new.held (λ file. header ≡ header_of file)
 
--- No page was asked for, or page 0 once.
+-- No page was asked for, or page 0 once, where the length has no fault.
 abbrev pub AsksAtMostForFirst : SourceView → SourceView → Type 0
-AsksAtMostForFirst old new = Asks old.asked [] new.asked ⊎ Asks old.asked (0 ∷ []) new.asked
+AsksAtMostForFirst old new =
+    Asks old.asked [] new.asked ⊎ (Asks old.asked (0 ∷ []) new.asked × ((size : ℕ) × (new.size ≡ Some size) × (length_fault size ≡ None)))
 
 -- The file of this name is open, and its length, before a page was asked for, or its header or page 0 has this fault.
 pub record IsRefusedFile (name : List ℕ) (old : SourceView) (found : Fault) (new : SourceView) : Type 0 where
   pub opens : OpensOnce old name new
   pub file : IsOpen old name new
   pub asked : AsksAtMostForFirst old new
-  -- nothing was asked for where the fault is that of the length
-  pub by_length : (size : ℕ) → new.size ≡ Some size → length_fault size ≡ Some found → Asks old.asked [] new.asked
   pub kind : is_opening_kind found.kind ≡ true
   pub first : IfSome new.held (λ file. opening_fault file ≡ Some found)
 

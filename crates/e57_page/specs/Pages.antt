@@ -11,7 +11,7 @@ use Rattle.e57_base.specs.declared.kind.Kind.TheVariants.{FileLength, Signature,
 use Rattle.e57_page.specs.declared.header.Header.{Header}
 use Rattle.e57_page.specs.declared.pages.Cut.{Cut}
 use Rattle.e57_page.specs.Place.{payload_length, RisesWithin, span_end}
-use Rattle.e57_page.specs.Kept.{is_kept, AreUnkept, KeepsTo}
+use Rattle.e57_page.specs.Kept.{AreUnkept, KeepsTo}
 use Rattle.e57_base.specs.Fault.{fault}
 use Rattle.e57_page.specs.Header.{header_of}
 use Rattle.e57_page.specs.File.{logical, length_fault, page_fault, pages_fault, span_fault, opening_fault}

@@ -113,9 +113,11 @@ impl<S: Source> Pages<S> {
         requires { at + length out.old ≤ self.old.length / page_length * payload_length }
         ensures length { self.new.length ≡ self.old.length }
         ensures header { self.new.header ≡ self.old.header }
-        ensures range { MatchResult result
-            (λ _. ReadsRange (S.view self.old.source) self.old.kept at (length out.old) out.new (S.view self.new.source) self.new.kept)
-            (λ cut. (n : ℕ) × IsCutAt (S.view self.old.source) self.old.kept at out.old cut out.new n (S.view self.new.source) self.new.kept) }
+        ensures range { let old = S.view self.old.source in
+            let new = S.view self.new.source in
+            MatchResult result
+            (λ _. ReadsRange old self.old.kept at (length out.old) out.new new self.new.kept)
+            (λ cut. (n : ℕ) × IsCutAt old self.old.kept at out.old cut out.new n new self.new.kept) }
     {
         let limit = self.logical_len();
         prove!(at <= limit);
@@ -133,22 +135,18 @@ impl<S: Source> Pages<S> {
 
     /// Reads the bytes of the range from place `at` on that lie in page `n`, each to its place in `out`. The range's pages
     /// are below `high`. After a refusal `out` and the pages that are kept are as they were.
-    fn read_piece(
-        &mut self,
-        n: u64,
-        high: u64,
-        at: u64,
-        out: &mut [u8],
-    ) -> Result<(), ReadFault>
+    fn read_piece(&mut self, n: u64, high: u64, at: u64, out: &mut [u8]) -> Result<(), ReadFault>
         requires page { n < self.old.length / page_length }
         requires below { n < high }
         requires reaches { at < payload_length * (n + 1) }
         requires begins { payload_length * n < at + length out.old }
         ensures length { self.new.length ≡ self.old.length }
         ensures header { self.new.header ≡ self.old.header }
-        ensures piece { MatchResult result
-            (λ _. ReadsPiece (S.view self.old.source) self.old.kept at n high out.old out.new (S.view self.new.source) self.new.kept)
-            (λ fault. LosesPiece (S.view self.old.source) self.old.kept n out.old fault out.new (S.view self.new.source) self.new.kept) }
+        ensures piece { let old = S.view self.old.source in
+            let new = S.view self.new.source in
+            MatchResult result
+            (λ _. ReadsPiece old self.old.kept at n high out.old out.new new self.new.kept)
+            (λ fault. LosesPiece old self.old.kept n out.old fault out.new new self.new.kept) }
     {
         if let Some(page) = kept_page(&self.kept, n) {
             copy_piece(page, n, at, out);
@@ -170,9 +168,11 @@ impl<S: Source> Pages<S> {
         ensures header { self.new.header ≡ self.old.header }
         ensures kept { self.new.kept ≡ self.old.kept }
         ensures count { MatchResult result (λ count. count ≡ self.old.length / page_length) (λ _. Unit {0}) }
-        ensures pages { MatchResult result
-            (λ count. IsScanned (S.view self.old.source) count (S.view self.new.source))
-            (λ fault. (n : ℕ) × IsScannedTo (S.view self.old.source) (self.old.length / page_length) fault n (S.view self.new.source)) }
+        ensures pages { let old = S.view self.old.source in
+            let new = S.view self.new.source in
+            MatchResult result
+            (λ count. IsScanned old count new)
+            (λ fault. (n : ℕ) × IsScannedTo old (self.old.length / page_length) fault n new) }
     {
         let length = self.length;
         scan(&mut self.source, length)

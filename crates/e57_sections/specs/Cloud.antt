@@ -3,7 +3,7 @@ use Rattle.std.specs.Prelude.{ℕ, zero, suc, ◌+◌, ◌-◌, ◌/◌, ◌==�
 use Rattle.std.specs.Option.{option_or}
 use Rattle.e57_base.specs.declared.fault.Fault.{Fault}
 use Rattle.e57_base.specs.declared.kind.Kind.TheVariants.{StreamShort, ValueRange, StringLimit}
-use Rattle.e57_page.specs.Header.{fault}
+use Rattle.e57_base.specs.Fault.{fault}
 use Rattle.e57_layout.specs.Values.{ItemKind, integers, words, strings, Value, whole, Outcome, here, short, over_limit, out_of_range}
 use Rattle.e57_layout.specs.Items.{item_at}
 use Rattle.e57_layout.specs.declared.section.Section.{Section}

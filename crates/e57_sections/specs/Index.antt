@@ -6,14 +6,15 @@ use Rattle.std.specs.Option.{option_or}
 use Rattle.e57_base.specs.declared.fault.Fault.{Fault}
 use Rattle.e57_base.specs.declared.kind.Kind.TheVariants.{IndexShape, IndexOrder, IndexTarget}
 use Rattle.e57_page.specs.Place.{place}
-use Rattle.e57_page.specs.Header.{fault}
+use Rattle.e57_base.specs.Fault.{fault}
 use Rattle.e57_page.specs.File.{logical}
 use Rattle.e57_layout.specs.Packets.{sort_at, restart_at, length_at}
 use Rattle.e57_layout.specs.IndexPackets.{index_size, entry_count_at, level_at, entries_at}
 use Rattle.e57_layout.specs.Written.{entries_limit}
 use Rattle.e57_layout.specs.declared.section.Section.{Section}
 use Rattle.e57_layout.specs.declared.packet.Entry.{Entry}
-use Rattle.e57_sections.specs.Section.{span_fault, when, or_zero}
+use Rattle.e57_page.specs.File.{span_fault}
+use Rattle.e57_sections.specs.Section.{when, or_zero}
 
 -- the level of a root packet is at most this
 abbrev pub highest_level : ℕ

@@ -6,3 +6,9 @@ pub mod Chunks
 pub mod Columns
 pub mod Entries
 pub mod Written
+pub mod Pieces
+pub mod Descents
+pub mod Reached
+pub mod Items
+pub mod Refusals
+pub mod Sections

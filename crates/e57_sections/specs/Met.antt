@@ -1,8 +1,9 @@
 -- The pages that a reader of some fields and records may ask for: those of what lies on the way to an item, and no others.
 -- What a fault puts out of reach adds nothing.
-use Rattle.std.specs.Prelude.{◌≡◌, ℕ, zero, suc, ◌+◌, ◌-◌, ◌*◌, ◌/◌, ◌^◌, ◌<◌, ◌≤◌, ◌≢◌, ◌⊎◌, ◌==◌, ◌&&◌, ◌||◌, not, nat_le, Bool, true, false, if◌then◌else◌, List, [], ◌∷◌, ◌++◌, length, slice_get, Option, Some, None, is_none, IsSomeAnd, Result, Ok, Err, Contains}
+use Rattle.std.specs.Prelude.{◌≡◌, ℕ, zero, suc, ◌+◌, ◌-◌, ◌*◌, ◌/◌, ◌<◌, ◌≤◌, ◌≢◌, ◌⊎◌, ◌==◌, ◌&&◌, ◌||◌, not, nat_le, Bool, true, false, if◌then◌else◌, List, [], ◌∷◌, ◌++◌, length, slice_get, Option, Some, None, is_none, IsSomeAnd, Result, Ok, Err, Contains}
 use Rattle.e57_base.specs.declared.fault.Fault.{Fault}
-use Rattle.e57_page.specs.Place.{place, span_end}
+use Rattle.e57_page.specs.Place.{payload_length, place, span_end}
+use Rattle.e57_page.specs.XmlSection.{xml_span_fault, xml_start}
 use Rattle.e57_page.specs.Header.{header_of}
 use Rattle.e57_page.specs.File.{logical}
 use Rattle.e57_layout.specs.Values.{ItemKind, Outcome, here, short, over_limit, out_of_range}
@@ -12,7 +13,8 @@ use Rattle.e57_layout.specs.Items.{item_at}
 use Rattle.e57_layout.specs.declared.section.Section.{Section}
 use Rattle.e57_layout.specs.declared.packet.Entry.{Entry}
 use Rattle.e57_layout.specs.declared.field.Fixed.{Fixed}
-use Rattle.e57_sections.specs.Section.{section_fault, logical_size, or_zero}
+use Rattle.e57_page.specs.File.{logical_size}
+use Rattle.e57_sections.specs.Section.{section_fault, or_zero}
 use Rattle.e57_sections.specs.Walk.{Packet, is_data_at, packet_head_fault, walk_from}
 use Rattle.e57_sections.specs.Index.{known_place, entries_of, index_shape_fault, index_packet_fault, root_fault, root_level, root_entry}
 use Rattle.e57_sections.specs.Chunks.{data_packets, stream_of, by_chunk, float_items}
@@ -21,7 +23,7 @@ use Rattle.e57_sections.specs.PathItem.{ChunkAt, Stretch, stretch, is_covered, p
 
 -- page p has some of the n logical bytes from place q on
 abbrev pub InSpan : ℕ → ℕ → ℕ → Type 0
-InSpan q n p = (q / 1020 ≤ p) × (p < span_end q n)
+InSpan q n p = (q / payload_length ≤ p) × (p < span_end q n)
 
 -- ---- the path through the index
 
@@ -136,9 +138,7 @@ InSectionHeader file c p = IsSomeAnd (place c.offset) (λ q. (q + 32 ≤ logical
 
 -- p is a page of the XML section, which lies in the file and is within its limit
 abbrev pub InXml : List ℕ → ℕ → Type 0
-InXml file p =
-    IsSomeAnd (place (header_of file).xml_place)
-    (λ q. (q + (header_of file).xml_length ≤ logical_size file) × ((header_of file).xml_length ≤ 2 ^ 26) × InSpan q (header_of file).xml_length p)
+InXml file p = (xml_span_fault (header_of file) (logical_size file) ≡ None) × InSpan (xml_start (header_of file)) (header_of file).xml_length p
 
 -- p is a page on the way to one of the asked fields, by their numbers, of one of the n records from record a on
 pub record OnRecords (file : List ℕ) (c : Cloud) (asked : List ℕ) (a n p : ℕ) : Type 0 where

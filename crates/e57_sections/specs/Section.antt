@@ -1,23 +1,15 @@
 -- The section of a cloud (ASTM E2807, compressed vector section): where it lies, and the first fault of its header.
 -- A place is a logical offset and an offset a physical one.
-use Rattle.std.specs.Prelude.{ℕ, ◌+◌, ◌-◌, ◌*◌, ◌/◌, ◌==◌, ◌||◌, not, nat_lt, Bool, if◌then◌else◌, List, length, Option, Some, None}
+use Rattle.std.specs.Prelude.{ℕ, ◌+◌, ◌==◌, ◌||◌, not, nat_lt, Bool, if◌then◌else◌, List, Option, Some, None}
 use Rattle.std.specs.Option.{option_or}
 use Rattle.e57_base.specs.declared.fault.Fault.{Fault}
 use Rattle.e57_base.specs.declared.kind.Kind.TheVariants.{SectionPlace, SectionId, DataPlace}
-use Rattle.e57_page.specs.Place.{place, span_end}
-use Rattle.e57_page.specs.Header.{fault}
-use Rattle.e57_page.specs.File.{logical, pages_fault}
+use Rattle.e57_page.specs.Place.{place}
+use Rattle.e57_base.specs.Fault.{fault}
+use Rattle.e57_page.specs.File.{logical, logical_size, span_fault}
 use Rattle.e57_layout.specs.Headers.{section_head_at}
 use Rattle.e57_layout.specs.declared.section.Section.{Section}
 use Rattle.e57_layout.specs.declared.section.SectionHeader.{SectionHeader}
-
--- the first fault of the pages of the n logical bytes from place q on
-unfoldable pub span_fault : List ℕ → ℕ → ℕ → Option Fault
-span_fault file q n = pages_fault file (q / 1020) (span_end q n - q / 1020)
-
--- how many logical bytes the file has
-unfoldable pub logical_size : List ℕ → ℕ
-logical_size file = length file / 1024 * 1020
 
 -- this fault where the test holds
 abbrev pub when : Bool → Fault → Option Fault

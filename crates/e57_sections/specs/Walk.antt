@@ -3,11 +3,12 @@ use Rattle.std.specs.Prelude.{ℕ, zero, suc, ◌+◌, ◌-◌, ◌*◌, ◌%◌
 use Rattle.std.specs.Option.{option_or}
 use Rattle.e57_base.specs.declared.fault.Fault.{Fault}
 use Rattle.e57_base.specs.declared.kind.Kind.TheVariants.{PacketLength, PacketType, DataShape}
-use Rattle.e57_page.specs.Header.{fault}
+use Rattle.e57_base.specs.Fault.{fault}
 use Rattle.e57_page.specs.File.{logical}
 use Rattle.e57_layout.specs.Packets.{sort_at, restart_at, length_at, stream_count_at, lengths_at, streams_of}
 use Rattle.e57_layout.specs.declared.section.Section.{Section}
-use Rattle.e57_sections.specs.Section.{span_fault, when}
+use Rattle.e57_page.specs.File.{span_fault}
+use Rattle.e57_sections.specs.Section.{when}
 
 -- A packet at a place, with its length in bytes. Only a data packet begins a chunk, and only it has streams.
 pub record Packet : Type 0 where

@@ -1,4 +1,5 @@
-pub mod Opening
+pub mod Asked
+pub mod Keeping
+pub mod Reading
 pub mod Scanning
 pub mod Showing
-pub mod Complete

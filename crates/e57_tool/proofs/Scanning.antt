@@ -1,24 +1,34 @@
 -- How `pages` ends, from what opening the file and scanning its pages found.
-use Rattle.std.proofs.Common.{◌≡◌, ℕ, ◌/◌, true, List, length, Option, Some, None, refl, sym, ap, subst, ◌∙◌, arith, zero-add}
+use Rattle.std.proofs.Common.{◌≡◌, ℕ, zero, suc, ◌+◌, ◌/◌, ◌≤◌, ◌<◌, true, List, [], ◌∷◌, length, take, Option, Some, None, inl, inr, refl, sym, ap, subst, ◌∙◌, arith, zero-add}
 use Rattle.std.specs.Prelude.{IfSome}
+use Rattle.std.specs.List.{range_with_len}
 use Rattle.std.specs.Option.{option_or}
-use Rattle.e57_base.specs.Source.{SourceView}
+use Rattle.e57_base.specs.Count.{rose_before}
+use Rattle.e57_base.specs.Source.{SourceView, Asks, asks_on}
 use Rattle.e57_base.specs.Sink.{SinkView}
 use Rattle.e57_base.specs.declared.fault.Fault.{Fault}
+use Rattle.e57_base.specs.Fault.{read_as_run}
+use Rattle.e57_base.specs.declared.fault.ReadFault.{ReadFault}
 use Rattle.e57_base.specs.declared.fault.ReadFault.TheVariants as read
-use Rattle.e57_base.specs.declared.fault.RunFault.{RunFault}
-use Rattle.e57_base.specs.declared.fault.RunFault.TheVariants.{Refused, Source, Out, Memory}
+use Rattle.e57_base.specs.declared.fault.RunFault.TheVariants.{Refused, Source}
 use Rattle.e57_page.specs.declared.header.Header.{Header}
 use Rattle.e57_page.specs.Header.{header_fault, header_of}
 use Rattle.e57_page.specs.File.{length_fault, page_fault, pages_fault, opening_fault}
 use Rattle.e57_page.specs.FileLaws.{pages_fault-found, pages_fault-zero, whole_length}
-use Rattle.e57_page.specs.Pages.{IsScanned, IsScannedTo, is_opening_kind}
+use Rattle.e57_page.specs.Pages.{AsksFor, IsScanned, IsScannedTo, is_opening_kind}
 use Rattle.e57_base.specs.Told.{told_map, told_both, told_here}
+use Rattle.e57_tool.specs.declared.ending.Ending.TheVariants.{Failed}
 use Rattle.e57_tool.specs.Lines.{pages_line}
-use Rattle.e57_base.specs.Opening.{OpensOnce, IsOpen}
-use Rattle.e57_tool.specs.Opening.{IsOpenedFile, IsUnopenedFile}
-use Rattle.e57_tool.specs.Pages.{pages_verdict, IsPagesFault, HasSoundPages, IsPagesOutput, PagesEnds}
-use Rattle.e57_tool.proofs.Opening.{opens_later, open_later}
+use Rattle.e57_base.specs.Opening.{OpensOnce, IsOpen, opens_later, open_later}
+use Rattle.e57_page.specs.Opening.{IsOpenedFile, IsUnopenedFile, AsksAtMostForFirst}
+use Rattle.e57_tool.specs.PagesAsked.{StopsAtOpening}
+use Rattle.e57_tool.specs.FileAnswer.{ReadsFile}
+use Rattle.e57_tool.specs.Pages.{pages_verdict, IsPagesOutput, pages_answer, page_order, AsksInOrder}
+use Rattle.e57_tool.proofs.Asked.{stops_before, stops_at_first, goes_on}
+
+-- no file has a fault and none
+pub is_either : (file : List ℕ) (found : Fault) → pages_verdict file ≡ None → pages_verdict file ≡ Some found → ⊥
+is_either file found sound fault = cc
 
 none_both : (a b : Option Fault) → option_or a b ≡ None → (a ≡ None) × (b ≡ None)
 none_both None b e = (refl, e)
@@ -46,51 +56,107 @@ opening_is file found e = elim (length_fault (length file)) as (λ (l : Option F
   | Some x ↦ λ some first. first
 ] refl e
 
+-- The first pages of the order were asked for.
+abbrev pub AsksForFirst : SourceView → SourceView → Type 0
+AsksForFirst old new = (count : ℕ) × Asks old.asked (take count (page_order new.size)) new.asked × StopsAtOpening (take count (page_order new.size)) new
+
+-- the first pages of the order are these
+first_pages : (old new : SourceView) (size count : ℕ) (pages : List ℕ) → new.size ≡ Some size → take count (0 ∷ range_with_len 0 (size / 1024)) ≡ pages → Asks old.asked pages new.asked → StopsAtOpening pages new → AsksForFirst old new
+first_pages old new size count pages is these asks stops =
+    let same : take count (page_order new.size) ≡ pages = ap (λ (s : Option ℕ). take count (page_order s)) is ∙ these in
+    (count, subst (λ (xs : List ℕ). Asks old.asked xs new.asked) (sym same) asks, subst (λ (xs : List ℕ). StopsAtOpening xs new) (sym same) stops)
+
+unopened_asked : (old new : SourceView) → AsksAtMostForFirst old new → AsksForFirst old new
+unopened_asked old new (inl none) = (0, none, stops_before new)
+unopened_asked old new (inr (first, (size, is, whole))) = first_pages old new size 1 (0 ∷ []) is refl first (stops_at_first new size is whole)
+
+take_range : (first count k : ℕ) → k ≤ count → take k (range_with_len first count) ≡ range_with_len first k
+take_range first count zero within = refl
+take_range first zero (suc k) within = absurd (omega arith)
+take_range first (suc count) (suc k) within = ap (λ (xs : List ℕ). first ∷ xs) (take_range (first + 1) count k (omega arith))
+
+-- page 0 and then these pages were asked for
+scan_asked : (old mid new : SourceView) (pages : List ℕ) → Asks old.asked (0 ∷ []) mid.asked → AsksFor mid pages new → Asks old.asked (0 ∷ pages) new.asked
+scan_asked old mid new pages first then = asks_on old.asked mid.asked new.asked (0 ∷ []) pages first then.asked
+
+-- the scan went up to page n
+part_asked : (name : List ℕ) (old mid new : SourceView) (size n : ℕ) (header : Header) → IsOpenedFile name old size header mid → AsksFor mid (range_with_len 0 (n + 1)) new → n < size / 1024 → AsksForFirst old new
+part_asked name old mid new size n header opened scanned within =
+    let is : new.size ≡ Some size = scanned.same.size ∙ opened.size_is in
+    let these : take (suc (n + 1)) (0 ∷ range_with_len 0 (size / 1024)) ≡ 0 ∷ range_with_len 0 (n + 1) = ap (λ (xs : List ℕ). 0 ∷ xs) (take_range 0 (size / 1024) (n + 1) (omega arith)) in
+    first_pages old new size (suc (n + 1)) (0 ∷ range_with_len 0 (n + 1)) is these
+    (scan_asked old mid new (range_with_len 0 (n + 1)) opened.asked scanned)
+    (goes_on new (0 ∷ range_with_len 0 (n + 1)) size is opened.whole (told_here (λ file. opening_fault file ≡ None) mid.held new.held scanned.same.held opened.sound))
+
 -- the file was not opened
-pub unopened_pages : (name : List ℕ) (old new : SourceView) (out : SinkView) (fault : RunFault) → IsUnopenedFile name old fault new → PagesEnds name old new out out (Some fault)
-unopened_pages name old new out (Refused found) refused =
+pub unopened_pages : (name : List ℕ) (old new : SourceView) (out : SinkView) (fault : ReadFault) → IsUnopenedFile name old fault new → ReadsFile pages_answer AsksInOrder name old new out out (Failed (read_as_run fault))
+unopened_pages name old new out (read.Refused found) refused =
     record {
-      opens = refused.opens;
-      file = refused.file;
-      first = told_map (λ file. opening_fault file ≡ Some found) (λ file. IsPagesFault file found) new.held (λ file first. opening_is file found first) refused.first;
-      kind = refused.kind;
-      nothing = refl;
+      pages = unopened_asked old new refused.asked;
+      answers = record {
+        opens = refused.opens;
+        file = refused.file;
+        first = told_map (λ file. opening_fault file ≡ Some found) (λ file. pages_verdict file ≡ Some found) new.held (λ file first. opening_is file found first) refused.first;
+        kind = refused.kind;
+        nothing = refl;
+      };
     }
-unopened_pages name old new out Source lost = record { opens = lost.0; cause = lost.2; nothing = refl }
-unopened_pages name old new out Out never = absurd never
-unopened_pages name old new out Memory never = absurd never
+unopened_pages name old new out read.Source lost = record { pages = unopened_asked old new lost.asked; answers = record { opens = lost.opens; cause = lost.cause; nothing = refl } }
 
 -- a page that the scan finds wrong
-pub wrong_page : (name : List ℕ) (old mid new : SourceView) (out : SinkView) (size kept n : ℕ) (header : Header) (found : Fault) → IsOpenedFile name old size header kept mid → IsScannedTo mid (size / 1024) (read.Refused found) n new → PagesEnds name old new out out (Some (Refused found))
-wrong_page name old mid new out size kept n header found opened scanned =
+wrong_page : (name : List ℕ) (old mid new : SourceView) (out : SinkView) (size n : ℕ) (header : Header) (found : Fault) → IsOpenedFile name old size header mid → IsScannedTo mid (size / 1024) (read.Refused found) n new → ReadsFile pages_answer AsksInOrder name old new out out (Failed (Refused found))
+wrong_page name old mid new out size n header found opened scanned =
     let same = scanned.source.same in
     let pages = told_both (λ file. (length file ≡ size) × (pages_fault file 0 n ≡ None)) (λ file. page_fault file n ≡ Some found) (λ file. pages_fault file 0 (length file / 1024) ≡ Some found) mid.held
     (λ file before at. pages_fault-found file 0 n (length file / 1024) found before.1 (rw zero-add at) (rw before.0 scanned.within))
     (told_both (λ file. length file ≡ size) (λ file. pages_fault file 0 n ≡ None) (λ file. (length file ≡ size) × (pages_fault file 0 n ≡ None)) mid.held (λ file is none. (is, none)) opened.long scanned.right)
     scanned.cause.1 in
     record {
-      opens = opens_later opened.opens same scanned.source.faults;
-      file = open_later old mid new name opened.file same;
-      first = told_here (λ file. IsPagesFault file found) mid.held new.held same.held (told_both (λ file. opening_fault file ≡ None) (λ file. pages_fault file 0 (length file / 1024) ≡ Some found) (λ file. IsPagesFault file found) mid.held (λ file opens page. verdict_is file (Some found) opens page) opened.sound pages);
-      kind = subst (λ (f : Fault). is_opening_kind f.kind ≡ true) (sym scanned.cause.0) refl;
-      nothing = refl;
+      pages = part_asked name old mid new size n header opened scanned.source scanned.within;
+      answers = record {
+        opens = opens_later opened.opens same scanned.source.faults;
+        file = open_later old mid new name opened.file same;
+        first = told_here (λ file. pages_verdict file ≡ Some found) mid.held new.held same.held (told_both (λ file. opening_fault file ≡ None) (λ file. pages_fault file 0 (length file / 1024) ≡ Some found) (λ file. pages_verdict file ≡ Some found) mid.held (λ file opens page. verdict_is file (Some found) opens page) opened.sound pages);
+        kind = subst (λ (f : Fault). is_opening_kind f.kind ≡ true) (sym scanned.cause.0) refl;
+        nothing = refl;
+      };
     }
+
+-- a page that the source fails to give
+lost_page : (name : List ℕ) (old mid new : SourceView) (out : SinkView) (size n : ℕ) (header : Header) → IsOpenedFile name old size header mid → IsScannedTo mid (size / 1024) read.Source n new → ReadsFile pages_answer AsksInOrder name old new out out (Failed Source)
+lost_page name old mid new out size n header opened scanned =
+    record {
+      pages = part_asked name old mid new size n header opened scanned.source scanned.within;
+      answers = record {
+        opens = opens_later opened.opens scanned.source.same scanned.source.faults;
+        cause = rose_before old.faults mid.faults new.faults opened.opens.faults scanned.cause;
+        nothing = refl;
+      };
+    }
+
+-- the page that stopped the scan
+pub stopped_at : (name : List ℕ) (old mid new : SourceView) (out : SinkView) (size n : ℕ) (header : Header) (fault : ReadFault) → IsOpenedFile name old size header mid → IsScannedTo mid (size / 1024) fault n new → ReadsFile pages_answer AsksInOrder name old new out out (Failed (read_as_run fault))
+stopped_at name old mid new out size n header (read.Refused found) opened scanned = wrong_page name old mid new out size n header found opened scanned
+stopped_at name old mid new out size n header read.Source opened scanned = lost_page name old mid new out size n header opened scanned
 
 -- What a scan of all pages says: the file has no fault, and the line is its output.
 pub record IsScannedFile (name : List ℕ) (old : SourceView) (text : List ℕ) (new : SourceView) : Type 0 where
+  pub asked : Asks old.asked (page_order new.size) new.asked
   pub opens : OpensOnce old name new
   pub file : IsOpen old name new
-  pub sound : IfSome new.held HasSoundPages
+  pub sound : IfSome new.held pages_answer.is_sound
   pub output : IfSome new.held (λ file. IsPagesOutput file text)
 
-pub scanned_file : (name : List ℕ) (old mid new : SourceView) (size kept count : ℕ) (header : Header) (text : List ℕ) → IsOpenedFile name old size header kept mid → IsScanned mid count new → count ≡ size / 1024 → text ≡ pages_line count header.xml_place header.xml_length → IsScannedFile name old text new
-scanned_file name old mid new size kept count header text opened scanned counted written =
+pub scanned_file : (name : List ℕ) (old mid new : SourceView) (size count : ℕ) (header : Header) (text : List ℕ) → IsOpenedFile name old size header mid → IsScanned mid count new → count ≡ size / 1024 → text ≡ pages_line count header.xml_place header.xml_length → IsScannedFile name old text new
+scanned_file name old mid new size count header text opened scanned counted written =
     let same = scanned.source.same in
+    let order : page_order new.size ≡ 0 ∷ range_with_len 0 count = ap page_order (same.size ∙ opened.size_is) ∙ ap (λ (n : ℕ). 0 ∷ range_with_len 0 n) (sym counted) in
     let pages = told_both (λ file. length file ≡ size) (λ file. pages_fault file 0 count ≡ None) (λ file. pages_fault file 0 (length file / 1024) ≡ None) mid.held (λ file is right. rw (is, ← counted) right) opened.long scanned.right in
     record {
+      asked = subst (λ (xs : List ℕ). Asks old.asked xs new.asked) (sym order) (scan_asked old mid new (range_with_len 0 count) opened.asked scanned.source);
       opens = opens_later opened.opens same scanned.source.faults;
       file = open_later old mid new name opened.file same;
-      sound = told_here HasSoundPages mid.held new.held same.held (told_both (λ file. opening_fault file ≡ None) (λ file. pages_fault file 0 (length file / 1024) ≡ None) HasSoundPages mid.held (λ file opens page. verdict_is file None opens page) opened.sound pages);
+      sound = told_here pages_answer.is_sound mid.held new.held same.held (told_both (λ file. opening_fault file ≡ None) (λ file. pages_fault file 0 (length file / 1024) ≡ None) pages_answer.is_sound mid.held (λ file opens page. verdict_is file None opens page) opened.sound pages);
       output = told_here (λ file. IsPagesOutput file text) mid.held new.held same.held (told_both (λ file. length file ≡ size) (λ file. header ≡ header_of file) (λ file. IsPagesOutput file text) mid.held (λ file is head. written ∙ rw (counted, is, head) refl) opened.long opened.read);
     }
 

@@ -1,32 +1,69 @@
 -- How `info` ends, from what opening the file and showing its text found.
-use Rattle.std.proofs.Common.{◌≡◌, ℕ, ◌/◌, Bool, true, false, ◌||◌, List, [], ◌∷◌, Option, Some, None, inl, inr, refl, sym, subst}
-use Rattle.std.specs.Prelude.{IfSome}
-use Rattle.e57_base.specs.Source.{SourceView, asks_on}
-use Rattle.e57_base.specs.Sink.{SinkView}
-use Rattle.e57_base.specs.declared.fault.RunFault.{RunFault}
-use Rattle.e57_base.specs.declared.fault.RunFault.TheVariants.{Refused, Source, Out, Memory}
+use Rattle.std.proofs.Common.{◌≡◌, ℕ, ◌*◌, ◌/◌, ◌<◌, ◌≤◌, min, max, Bool, true, false, ◌||◌, List, [], ◌∷◌, length, Option, Some, None, Result, Err, inl, inr, refl, sym, subst, ◌∙◌, arith, lit≤}
+use Rattle.std.specs.Prelude.{IfSome, MatchOption, IfErr}
 use Rattle.e57_base.specs.Count.{rose_before}
+use Rattle.e57_base.specs.Fault.{read_as_run}
+use Rattle.e57_base.specs.Source.{SourceView, Asks, asks_on}
+use Rattle.e57_base.specs.Sink.{SinkView}
+use Rattle.e57_base.specs.Told.{told_map, told_both, told_here}
+use Rattle.e57_base.specs.Opening.{OpensOnce, IsOpen, opens_later, open_later}
+use Rattle.e57_base.specs.declared.fault.Fault.{Fault}
+use Rattle.e57_base.specs.declared.fault.ReadFault.{ReadFault}
+use Rattle.e57_base.specs.declared.fault.ReadFault.TheVariants as read
+use Rattle.e57_base.specs.declared.fault.RunFault.{RunFault}
+use Rattle.e57_base.specs.declared.fault.RunFault.TheVariants.{Refused, Source, Out, Memory, Ask}
 use Rattle.e57_page.specs.declared.header.Header.{Header}
 use Rattle.e57_page.specs.Header.{header_of}
-use Rattle.e57_page.specs.Place.{RisesWithin, span_end, unless_kept}
-use Rattle.e57_page.specs.File.{opening_fault}
-use Rattle.e57_page.specs.Pages.{is_opening_kind}
-use Rattle.e57_file.specs.Section.{start_of, IsTextFault}
-use Rattle.e57_file.specs.Text.{AsksForSection, is_text_kind}
+use Rattle.e57_page.specs.Kept.{is_kept, KeepsFirst}
+use Rattle.e57_page.specs.Place.{RisesWithin, span_end}
+use Rattle.e57_page.specs.PlaceLaws.{rises_from_lower, rises_to_higher}
+use Rattle.e57_page.specs.File.{logical_size, opening_fault}
+use Rattle.e57_page.specs.Opening.{IsOpenedFile, IsUnopenedFile, AsksAtMostForFirst}
+use Rattle.e57_page.specs.Pages.{Reading, AsksFor, AsksUnkept, is_opening_kind}
+use Rattle.e57_page.specs.PagesLaws.{asks_unkept_from}
+use Rattle.e57_page.specs.XmlSection.{xml_start, xml_span_fault}
+use Rattle.e57_file.specs.Text.{IsTextFault, AsksForXml, is_text_kind}
 use Rattle.e57_show.specs.Info.{InfoEnds, ShowsText, HasNoTextFault, IsShown}
-use Rattle.e57_base.specs.Told.{told_map, told_both, told_here}
-use Rattle.e57_base.specs.Opening.{OpensOnce, IsOpen}
-use Rattle.e57_tool.specs.Opening.{IsOpenedFile, IsUnopenedFile, AsksAtMostForFirst}
-use Rattle.e57_tool.specs.Info.{IsInfoFault, HasSoundText, IsInfoOutput, IsTextAsk, AsksForText, InfoRunEnds}
-use Rattle.e57_tool.proofs.Opening.{opens_later, open_later}
+use Rattle.e57_show.specs.Opening.{IsPastPlace, JudgesPlaceFirst}
+use Rattle.e57_tool.specs.declared.ending.Ending.TheVariants.{Failed}
+use Rattle.e57_tool.specs.PagesAsked.{StopsAtOpening}
+use Rattle.e57_tool.specs.FileAnswer.{ReadsFile}
+use Rattle.e57_tool.specs.Info.{IsInfoFault, HasSoundText, HasTextPlace, IsFirstAndThen, IsTextAsk, AsksForText, info_answer, info_rule}
+use Rattle.e57_tool.proofs.Asked.{told_always, stops_before, stops_at_first, goes_on}
 
-always : (P : List ℕ → Type 0) (held : Option (List ℕ)) → ((file : List ℕ) → P file) → IfSome held P
-always P None f = tt
-always P (Some file) f = f file
+-- no file has a fault and none
+pub is_either : (file : List ℕ) (found : Fault) → HasSoundText file → IsInfoFault file found → ⊥
+is_either file found sound fault = sound found fault
 
-first_asked : (old new : SourceView) → AsksAtMostForFirst old new → AsksForText old new
-first_asked old new (inl none) = ([], none, always (λ file. IsTextAsk (header_of file) []) new.held (λ file. inl refl))
-first_asked old new (inr first) = (0 ∷ [], first, always (λ file. IsTextAsk (header_of file) (0 ∷ [])) new.held (λ file. inr ([], refl, tt)))
+-- so few pages that no place was judged
+few : (pages : List ℕ) (source : SourceView) → length pages ≤ 1 → IfSome source.held (λ file. IfSome (xml_span_fault (header_of file) (logical_size file)) (λ _. length pages ≤ 1))
+few pages source within = told_always (λ file. IfSome (xml_span_fault (header_of file) (logical_size file)) (λ _. length pages ≤ 1)) source.held (λ file. told_always (λ _. length pages ≤ 1) (xml_span_fault (header_of file) (logical_size file)) (λ _. within))
+
+nothing_asked : (old new : SourceView) → Asks old.asked [] new.asked → AsksForText old new
+nothing_asked old new none =
+    record {
+      pages = [];
+      asks = none;
+      stops = stops_before new;
+      of_file = inl refl;
+      of_text = told_always (λ file. IsTextAsk (header_of file) []) new.held (λ file. inl refl);
+      by_place = few [] new (lit≤ tt);
+    }
+
+first_asked : (old new : SourceView) → Asks old.asked (0 ∷ []) new.asked → StopsAtOpening (0 ∷ []) new → AsksForText old new
+first_asked old new first stops =
+    record {
+      pages = 0 ∷ [];
+      asks = first;
+      stops = stops;
+      of_file = inr (told_always (λ size. IsFirstAndThen 1 (size / 1024) (0 ∷ [])) new.size (λ size. inr ([], refl, tt)));
+      of_text = told_always (λ file. IsTextAsk (header_of file) (0 ∷ [])) new.held (λ file. inr ([], refl, tt));
+      by_place = few (0 ∷ []) new (lit≤ tt);
+    }
+
+unopened_asked : (old new : SourceView) → AsksAtMostForFirst old new → AsksForText old new
+unopened_asked old new (inl none) = nothing_asked old new none
+unopened_asked old new (inr (first, (size, is, whole))) = first_asked old new first (stops_at_first new size is whole)
 
 either_kind : (a b : Bool) → a ≡ true → (a || b) ≡ true
 either_kind true b e = refl
@@ -37,11 +74,11 @@ other_kind true b e = refl
 other_kind false b e = e
 
 -- the file was not opened
-pub unopened_info : (name : List ℕ) (old new : SourceView) (out : SinkView) (fault : RunFault) → IsUnopenedFile name old fault new → InfoRunEnds name old new out out (Some fault)
-unopened_info name old new out (Refused found) refused =
+pub unopened_info : (name : List ℕ) (old new : SourceView) (out : SinkView) (fault : ReadFault) → IsUnopenedFile name old fault new → ReadsFile info_answer info_rule name old new out out (Failed (read_as_run fault))
+unopened_info name old new out (read.Refused found) refused =
     record {
-      asked = first_asked old new refused.asked;
-      ends = record {
+      pages = unopened_asked old new refused.asked;
+      answers = record {
         opens = refused.opens;
         file = refused.file;
         first = told_map (λ file. opening_fault file ≡ Some found) (λ file. IsInfoFault file found) new.held (λ file first. inl first) refused.first;
@@ -49,73 +86,127 @@ unopened_info name old new out (Refused found) refused =
         nothing = refl;
       };
     }
-unopened_info name old new out Source lost = record { asked = first_asked old new lost.1; ends = record { opens = lost.0; cause = lost.2; nothing = refl } }
-unopened_info name old new out Out never = absurd never
-unopened_info name old new out Memory never = absurd never
+unopened_info name old new out read.Source lost = record { pages = unopened_asked old new lost.asked; answers = record { opens = lost.opens; cause = lost.cause; nothing = refl } }
 
--- page 0 and then the pages of the section were asked for
-text_asked : (name : List ℕ) (old mid new : SourceView) (size kept : ℕ) (header : Header) → IsOpenedFile name old size header kept mid → AsksForSection header kept mid new → AsksForText old new
-text_asked name old mid new size kept header opened asked = (
-  0 ∷ asked.0,
-  asks_on old.asked mid.asked new.asked (0 ∷ []) asked.0 opened.asked asked.2.asked,
-  told_here (λ file. IsTextAsk (header_of file) (0 ∷ asked.0)) mid.held new.held asked.2.same.held
-      (told_map (λ file. header ≡ header_of file) (λ file. IsTextAsk (header_of file) (0 ∷ asked.0)) mid.held
-      (λ file is. inr (asked.0, refl, subst (λ (h : Header). RisesWithin (unless_kept 0 (start_of h / 1020)) (span_end (start_of h) h.xml_length) asked.0) is (subst (λ (k : ℕ). RisesWithin (unless_kept k (start_of header / 1020)) (span_end (start_of header) header.xml_length) asked.0) opened.first asked.1)))
-      opened.read),
-)
+-- the place of the section, by the numbers that were read and by the file
+place_told : (mid : SourceView) (size : ℕ) (header : Header) (outcome : Option Fault) → IfSome mid.held (λ file. length file ≡ size) → IfSome mid.held (λ file. header ≡ header_of file) → xml_span_fault header (size / 1024 * 1020) ≡ outcome → IfSome mid.held (λ file. xml_span_fault (header_of file) (logical_size file) ≡ outcome)
+place_told mid size header outcome long read is =
+    told_both (λ file. length file ≡ size) (λ file. header ≡ header_of file) (λ file. xml_span_fault (header_of file) (logical_size file) ≡ outcome) mid.held
+    (λ file same head. let by_file : xml_span_fault (header_of file) (logical_size file) ≡ xml_span_fault header (size / 1024 * 1020) = rw (← head, same) refl in by_file ∙ is) long read
 
-no_info_fault : (header : Header) (file : List ℕ) → opening_fault file ≡ None → header ≡ header_of file → HasNoTextFault header file → HasSoundText file
-no_info_fault header file opens is none found (inl early) = absurd cc
-no_info_fault header file opens is none found (inr (before, late)) = none found (subst (λ (h : Header). IsTextFault h file found) (sym is) late)
+no_place_fault : (found : Option Fault) (P : Type 0) → found ≡ None → IfSome found (λ _. P)
+no_place_fault None P is = tt
+no_place_fault (Some found) P is = absurd cc
+
+-- page 0 is kept, so it isn't asked for again
+kept_first : (kept : List ℕ) (low k : ℕ) → KeepsFirst kept → low ≤ k → k < max 1 low → is_kept kept k ≡ true
+kept_first kept low k keeps from below = let first : k ≡ 0 = omega arith in subst (λ (n : ℕ). is_kept kept n ≡ true) (sym first) (keeps 0)
+
+-- page 0, and then pages of the section
+section_asked : (name : List ℕ) (old mid new : SourceView) (size : ℕ) (header : Header) (kept : List ℕ) → IsOpenedFile name old size header mid → KeepsFirst kept → xml_span_fault header (size / 1024 * 1020) ≡ None → AsksUnkept kept (xml_start header / 1020) (min (span_end (xml_start header) header.xml_length) (size / 1024)) mid new → AsksForText old new
+section_asked name old mid new size header kept opened keeps placed asked =
+    let low = xml_start header / 1020 in
+    let high = min (span_end (xml_start header) header.xml_length) (size / 1024) in
+    let unkept : AsksUnkept kept (max 1 low) high mid new = asks_unkept_from kept low (max 1 low) high mid new (λ k from below. kept_first kept low k keeps from below) asked in
+    let rest = unkept.0 in
+    let asks = unkept.3 in
+    let is : new.size ≡ Some size = asks.same.size ∙ opened.size_is in
+    let in_file : RisesWithin 1 (size / 1024) rest = rises_from_lower 1 (max 1 low) (size / 1024) rest (omega arith) (rises_to_higher (max 1 low) high (size / 1024) rest (omega arith) unkept.1) in
+    let in_text : RisesWithin (max 1 low) (span_end (xml_start header) header.xml_length) rest = rises_to_higher (max 1 low) high (span_end (xml_start header) header.xml_length) rest (omega arith) unkept.1 in
+    record {
+      pages = 0 ∷ rest;
+      asks = asks_on old.asked mid.asked new.asked (0 ∷ []) rest opened.asked asks.asked;
+      stops = goes_on new (0 ∷ rest) size is opened.whole (told_here (λ file. opening_fault file ≡ None) mid.held new.held asks.same.held opened.sound);
+      of_file = inr (subst (λ (s : Option ℕ). IfSome s (λ n. IsFirstAndThen 1 (n / 1024) (0 ∷ rest))) (sym is) (inr (rest, refl, in_file)));
+      of_text = told_here (λ file. IsTextAsk (header_of file) (0 ∷ rest)) mid.held new.held asks.same.held
+          (told_map (λ file. header ≡ header_of file) (λ file. IsTextAsk (header_of file) (0 ∷ rest)) mid.held
+          (λ file head. subst (λ (h : Header). IsTextAsk h (0 ∷ rest)) head (inr (rest, refl, in_text)))
+          opened.read);
+      by_place = told_here (λ file. IfSome (xml_span_fault (header_of file) (logical_size file)) (λ _. length (0 ∷ rest) ≤ 1)) mid.held new.held asks.same.held
+          (told_map (λ file. xml_span_fault (header_of file) (logical_size file) ≡ None) (λ file. IfSome (xml_span_fault (header_of file) (logical_size file)) (λ _. length (0 ∷ rest) ≤ 1)) mid.held
+          (λ file none. no_place_fault (xml_span_fault (header_of file) (logical_size file)) (length (0 ∷ rest) ≤ 1) none)
+          (place_told mid size header None opened.long opened.read placed));
+    }
+
+-- page 0 was asked for, and no other where the section has no place
+pub text_asked : {S T : Type 0} (view : S → SourceView) (name : List ℕ) (old : SourceView) (before after : Reading S) (out out' : SinkView) (result : Result T RunFault) → IsOpenedFile name old before.length before.header (view before.source) → KeepsFirst before.kept → JudgesPlaceFirst before out result after out' → AsksForXml before (view before.source) (view after.source) → AsksForText old (view after.source)
+text_asked {S} view name old before after out out' result opened keeps judged asked = elim (xml_span_fault before.header (before.length / 1024 * 1020)) as (λ (o : Option Fault). xml_span_fault before.header (before.length / 1024 * 1020) ≡ o → MatchOption o (IfErr result IsPastPlace) (λ found. (result ≡ Err (Refused found)) × (after ≡ before) × (out' ≡ out)) → AsksForText old (view after.source)) [
+  | None ↦ λ none past. section_asked name old (view before.source) (view after.source) before.length before.header before.kept opened keeps none asked
+  | Some found ↦ λ some refused. subst (λ (r : Reading S). AsksForText old (view r.source)) (sym refused.1) (first_asked old (view before.source) opened.asked (stops_at_first (view before.source) before.length opened.size_is opened.whole))
+] refl judged
+
+not_both : {T : Type 0} (result : Result T RunFault) (found : Fault) → result ≡ Err Memory → result ≡ Err (Refused found) → ⊥
+not_both result found memory refused = cc
+
+-- memory ran out, so the section has its place
+placed : {S T : Type 0} (before after : Reading S) (out out' : SinkView) (result : Result T RunFault) → result ≡ Err Memory → JudgesPlaceFirst before out result after out' → xml_span_fault before.header (before.length / 1024 * 1020) ≡ None
+placed before after out out' result is judged = elim (xml_span_fault before.header (before.length / 1024 * 1020)) as (λ (o : Option Fault). MatchOption o (IfErr result IsPastPlace) (λ found. (result ≡ Err (Refused found)) × (after ≡ before) × (out' ≡ out)) → o ≡ None) [
+  | None ↦ λ past. refl
+  | Some found ↦ λ refused. absurd (not_both result found is refused.0)
+] judged
+
+no_info_fault : (file : List ℕ) → opening_fault file ≡ None → HasNoTextFault file → HasSoundText file
+no_info_fault file opens none found (inl early) = absurd cc
+no_info_fault file opens none found (inr (before, late)) = none found late
 
 -- What a text that is shown says of the file.
 pub record IsShownFile (name : List ℕ) (old : SourceView) (text : List ℕ) (new : SourceView) : Type 0 where
-  pub asked : AsksForText old new
   pub opens : OpensOnce old name new
   pub file : IsOpen old name new
   pub sound : IfSome new.held HasSoundText
-  pub output : IfSome new.held (λ file. IsInfoOutput file text)
+  pub output : IfSome new.held (λ file. IsShown file text)
 
-pub shown_file : (name : List ℕ) (old mid new : SourceView) (size kept : ℕ) (header : Header) (text : List ℕ) → IsOpenedFile name old size header kept mid → ShowsText header kept mid text new → IsShownFile name old text new
-shown_file name old mid new size kept header text opened shows =
-    let same = shows.source.2.same in
-    let here = told_both (λ file. opening_fault file ≡ None) (λ file. header ≡ header_of file) (λ file. (opening_fault file ≡ None) × (header ≡ header_of file)) mid.held (λ file opens is. (opens, is)) opened.sound opened.read in
+pub shown_file : (name : List ℕ) (old mid new : SourceView) (size : ℕ) (header : Header) (text rest : List ℕ) → IsOpenedFile name old size header mid → AsksFor mid rest new → ShowsText mid text → IsShownFile name old text new
+shown_file name old mid new size header text rest opened asks shows =
     record {
-      asked = text_asked name old mid new size kept header opened shows.source;
-      opens = opens_later opened.opens same shows.source.2.faults;
-      file = open_later old mid new name opened.file same;
-      sound = told_here HasSoundText mid.held new.held same.held (told_both (λ file. (opening_fault file ≡ None) × (header ≡ header_of file)) (λ file. HasNoTextFault header file) HasSoundText mid.held (λ file both none. no_info_fault header file both.0 both.1 none) here shows.sound);
-      output = told_here (λ file. IsInfoOutput file text) mid.held new.held same.held (told_both (λ file. header ≡ header_of file) (λ file. IsShown header file text) (λ file. IsInfoOutput file text) mid.held (λ file is shown. subst (λ (h : Header). IsShown h file text) is shown) opened.read shows.shown);
+      opens = opens_later opened.opens asks.same asks.faults;
+      file = open_later old mid new name opened.file asks.same;
+      sound = told_here HasSoundText mid.held new.held asks.same.held (told_both (λ file. opening_fault file ≡ None) HasNoTextFault HasSoundText mid.held (λ file sound none. no_info_fault file sound none) opened.sound shows.sound);
+      output = told_here (λ file. IsShown file text) mid.held new.held asks.same.held shows.shown;
     }
 
 -- the text has a fault, or a call failed
-pub failed_info : (name : List ℕ) (old mid new : SourceView) (out out' : SinkView) (size kept : ℕ) (header : Header) (fault : RunFault) → IsOpenedFile name old size header kept mid → InfoEnds header kept mid new out out' (Some fault) → InfoRunEnds name old new out out' (Some fault)
-failed_info name old mid new out out' size kept header (Refused found) opened (asked, kind, first, nothing) =
-    let same = asked.2.same in
-    let here = told_both (λ file. opening_fault file ≡ None) (λ file. header ≡ header_of file) (λ file. (opening_fault file ≡ None) × (header ≡ header_of file)) mid.held (λ file opens is. (opens, is)) opened.sound opened.read in
+pub failed_info : {S T : Type 0} (view : S → SourceView) (name : List ℕ) (old : SourceView) (before after : Reading S) (out out' : SinkView) (result : Result T RunFault) (fault : RunFault) → result ≡ Err fault → IsOpenedFile name old before.length before.header (view before.source) → AsksForXml before (view before.source) (view after.source) → JudgesPlaceFirst before out result after out' → AsksForText old (view after.source) → InfoEnds (view before.source) (view after.source) out out' (Some fault) → ReadsFile info_answer info_rule name old (view after.source) out out' (Failed fault)
+failed_info view name old before after out out' result (Refused found) is opened asked judged pages (kind, first, nothing) =
+    let asks = asked.3 in
+    let mid = view before.source in
+    let new = view after.source in
     record {
-      asked = text_asked name old mid new size kept header opened asked;
-      ends = record {
-        opens = opens_later opened.opens same asked.2.faults;
-        file = open_later old mid new name opened.file same;
-        first = told_here (λ file. IsInfoFault file found) mid.held new.held same.held (told_both (λ file. (opening_fault file ≡ None) × (header ≡ header_of file)) (λ file. IsTextFault header file found) (λ file. IsInfoFault file found) mid.held (λ file both late. inr (both.0, subst (λ (h : Header). IsTextFault h file found) both.1 late)) here first);
+      pages = pages;
+      answers = record {
+        opens = opens_later opened.opens asks.same asks.faults;
+        file = open_later old mid new name opened.file asks.same;
+        first = told_here (λ file. IsInfoFault file found) mid.held new.held asks.same.held (told_both (λ file. opening_fault file ≡ None) (λ file. IsTextFault file found) (λ file. IsInfoFault file found) mid.held (λ file sound late. inr (sound, late)) opened.sound first);
         kind = other_kind (is_opening_kind found.kind) (is_text_kind found.kind) kind;
         nothing = nothing;
       };
     }
-failed_info name old mid new out out' size kept header Source opened (asked, cause, nothing) =
+failed_info view name old before after out out' result Source is opened asked judged pages (cause, nothing) =
+    let asks = asked.3 in
     record {
-      asked = text_asked name old mid new size kept header opened asked;
-      ends = record { opens = opens_later opened.opens asked.2.same asked.2.faults; cause = rose_before old.faults mid.faults new.faults opened.opens.faults cause; nothing = nothing };
+      pages = pages;
+      answers = record { opens = opens_later opened.opens asks.same asks.faults; cause = rose_before old.faults (view before.source).faults (view after.source).faults opened.opens.faults cause; nothing = nothing };
     }
-failed_info name old mid new out out' size kept header Out opened (text, shows, cause, wrote) =
-    let file = shown_file name old mid new size kept header text opened shows in
+failed_info view name old before after out out' result Out is opened asked judged pages (text, shows, cause, wrote) =
+    let file = shown_file name old (view before.source) (view after.source) before.length before.header text asked.0 opened asked.3 shows in
     record {
-      asked = file.asked;
-      ends = record { opens = file.opens; file = file.file; sound = file.sound; cause = cause; wrote = (text, file.output, wrote) };
+      pages = pages;
+      answers = record { opens = file.opens; file = file.file; sound = file.sound; cause = cause; wrote = (text, file.output, wrote) };
     }
-failed_info name old mid new out out' size kept header Memory opened (asked, nothing) =
+failed_info view name old before after out out' result Memory is opened asked judged pages nothing =
+    let asks = asked.3 in
+    let mid = view before.source in
+    let new = view after.source in
+    let place = place_told mid before.length before.header None opened.long opened.read (placed before after out out' result is judged) in
     record {
-      asked = text_asked name old mid new size kept header opened asked;
-      ends = (opens_later opened.opens asked.2.same asked.2.faults, nothing);
+      pages = pages;
+      answers = record {
+        takes = refl;
+        opens = opens_later opened.opens asks.same asks.faults;
+        file = open_later old mid new name opened.file asks.same;
+        whole = (before.length, asks.same.size ∙ opened.size_is, opened.whole);
+        long = told_here HasTextPlace mid.held new.held asks.same.held (told_both (λ file. opening_fault file ≡ None) (λ file. xml_span_fault (header_of file) (logical_size file) ≡ None) HasTextPlace mid.held (λ file sound none. (sound, none)) opened.sound place);
+        nothing = nothing;
+      };
     }
+failed_info view name old before after out out' result (Ask why) is opened asked judged pages never = absurd never

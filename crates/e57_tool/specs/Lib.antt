@@ -1,8 +1,13 @@
+pub mod Cursor
 pub mod Words
 pub mod Lines
+pub mod Status
+pub mod Ending
+pub mod Outside
 pub mod Run
-pub mod Opening
+pub mod PagesAsked
+pub mod FileAnswer
+pub mod Text
 pub mod Pages
 pub mod Info
-pub mod Status
 pub mod Commands

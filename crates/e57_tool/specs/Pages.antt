@@ -1,36 +1,48 @@
 -- `pages FILE`
-use Rattle.std.specs.Prelude.{◌≡◌, ℕ, ◌/◌, List, length, Option, Some, None}
+use Rattle.std.specs.Prelude.{◌≡◌, ℕ, ◌/◌, false, List, [], ◌∷◌, length, take, Option, Some, None}
+use Rattle.std.specs.List.{range_with_len}
 use Rattle.std.specs.Option.{option_or}
-use Rattle.e57_base.specs.Source.{SourceView}
-use Rattle.e57_base.specs.Sink.{SinkView}
+use Rattle.e57_base.specs.Source.{Asks}
 use Rattle.e57_base.specs.declared.fault.Fault.{Fault}
-use Rattle.e57_base.specs.declared.fault.RunFault.{RunFault}
-use Rattle.e57_base.specs.declared.fault.RunFault.TheVariants.{Refused, Source, Out, Memory}
+use Rattle.e57_base.specs.declared.fault.RunFault.TheVariants.{Out}
 use Rattle.e57_page.specs.Header.{header_fault, xml_offset, xml_length}
 use Rattle.e57_page.specs.File.{length_fault, pages_fault}
 use Rattle.e57_page.specs.Pages.{is_opening_kind}
+use Rattle.e57_tool.specs.declared.ending.Ending.TheVariants.{Done, Failed}
 use Rattle.e57_tool.specs.Lines.{pages_line}
-use Rattle.e57_tool.specs.Run.{Completes, FindsFault, LosesSource, LosesOut}
+use Rattle.e57_tool.specs.PagesAsked.{StopsAtOpening}
+use Rattle.e57_tool.specs.FileAnswer.{FileAnswer, PageRule, reading}
+use Rattle.e57_tool.specs.Run.{Promise}
 
 -- the first fault of the length, the header and the pages by number
 abbrev pub pages_verdict : List ℕ → Option Fault
 pages_verdict file = option_or (length_fault (length file)) (option_or (header_fault file (length file)) (pages_fault file 0 (length file / 1024)))
 
-abbrev pub IsPagesFault : List ℕ → Fault → Type 0
-IsPagesFault file found = pages_verdict file ≡ Some found
-
-abbrev pub HasSoundPages : List ℕ → Type 0
-HasSoundPages file = pages_verdict file ≡ None
-
 -- the line for a file without such a fault
 abbrev pub IsPagesOutput : List ℕ → List ℕ → Type 0
 IsPagesOutput file text = text ≡ pages_line (length file / 1024) (xml_offset file) (xml_length file)
 
--- how the command ends, without a fault or with one
-abbrev pub PagesEnds : List ℕ → SourceView → SourceView → SinkView → SinkView → Option RunFault → Type 0
-PagesEnds name old new out out' None = Completes HasSoundPages IsPagesOutput name old new out out'
-PagesEnds name old new out out' (Some (Refused found)) = FindsFault IsPagesFault is_opening_kind name old new out out' found
-PagesEnds name old new out out' (Some Source) = LosesSource name old new out out'
-PagesEnds name old new out out' (Some Out) = LosesOut HasSoundPages IsPagesOutput name old new out out'
--- it takes no memory
-PagesEnds name old new out out' (Some Memory) = ⊥
+abbrev pub pages_answer : FileAnswer
+pages_answer =
+    record {
+      is_faulty = λ file found. pages_verdict file ≡ Some found;
+      is_named = is_opening_kind;
+      is_sound = λ file. pages_verdict file ≡ None;
+      is_output = IsPagesOutput;
+      takes_memory = false;
+      may_run_out = λ file. ⊥;
+    }
+
+-- the pages of an open file of this length, in the order of asking: page 0 when it is opened, and then every page
+abbrev pub page_order : Option ℕ → List ℕ
+page_order None = []
+page_order (Some size) = 0 ∷ range_with_len 0 (size / 1024)
+
+-- All these pages were asked for, where the file has no fault, else the first so many of them.
+abbrev pub AsksInOrder : PageRule
+AsksInOrder old new Done = Asks old.asked (page_order new.size) new.asked
+AsksInOrder old new (Failed Out) = Asks old.asked (page_order new.size) new.asked
+AsksInOrder old new _ = (count : ℕ) × Asks old.asked (take count (page_order new.size)) new.asked × StopsAtOpening (take count (page_order new.size)) new
+
+abbrev pub pages_promise : List ℕ → Promise
+pages_promise = reading pages_answer AsksInOrder

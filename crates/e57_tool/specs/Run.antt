@@ -1,81 +1,79 @@
--- How a run of the program ends: its status, and what the objects received.
-use Rattle.std.specs.Prelude.{◌≡◌, ◌⊎◌, ℕ, ◌≤◌, List, Bool, true, if◌then◌else◌, Option, Some, None, IsSome, IfSome, option_and_then}
-use Rattle.std.specs.FinMap.{get}
-use Rattle.e57_base.specs.Count.{Rose}
+-- What a run of a command promises.
+use Rattle.std.specs.Prelude.{◌≡◌, ◌⊎◌, ℕ, Bool, true, false, IsTrue, IsSome}
+use Rattle.e57_base.specs.Count.{raised}
 use Rattle.e57_base.specs.Source.{SourceView}
-use Rattle.e57_base.specs.Opening.{OpensOnce, IsOpen}
-use Rattle.e57_base.specs.Sink.{SinkView, Grows, GrowsByFront}
-use Rattle.e57_base.specs.declared.fault.Fault.{Fault}
-use Rattle.e57_base.specs.declared.fault.RunFault.{RunFault}
-use Rattle.e57_base.specs.declared.fault.RunFault.TheVariants as fault
-use Rattle.e57_base.specs.declared.kind.Kind.{Kind}
+use Rattle.e57_base.specs.Target.{TargetView}
+use Rattle.e57_base.specs.Sink.{SinkView}
+use Rattle.e57_tool.specs.declared.ending.Ending.{Ending}
 use Rattle.e57_tool.specs.declared.status.Status.{Status}
-use Rattle.e57_tool.specs.declared.status.Status.TheVariants as status
-use Rattle.e57_tool.specs.Lines.{refused_line, source_line, out_line, memory_line, words_line}
+use Rattle.e57_tool.specs.declared.status.Status.TheVariants.{Done, Refused, WordsFault, Memory, AskRefused}
+use Rattle.e57_tool.specs.Lines.{words_line}
+use Rattle.e57_tool.specs.Ending.{status_of, line_of, PutsLine, PutsLineOf}
+use Rattle.e57_tool.specs.Outside.{Outside, outside, NoCallFails}
 
--- The file has no fault that the command names, and its whole output was put.
-pub record Completes (is_sound : List ℕ → Type 0) (is_output : List ℕ → List ℕ → Type 0) (name : List ℕ) (old new : SourceView) (out out' : SinkView) : Type 0 where
-  pub opens : OpensOnce old name new
-  pub file : IsOpen old name new
-  pub sound : IfSome new.held is_sound
-  pub wrote : (text : List ℕ) × IfSome new.held (λ file. is_output file text) × Grows out.written text out'.written
+-- how many files a command opens
+pub data Opens : Type 0 where
+  NoFile : Opens
+  OneFile : Opens
+  -- as its own relation says
+  MoreFiles : Opens
 
--- The file has this fault, of a kind that the command names. Nothing was put.
-pub record FindsFault (is_faulty : List ℕ → Fault → Type 0) (is_named : Kind → Bool) (name : List ℕ) (old new : SourceView) (out out' : SinkView) (found : Fault) : Type 0 where
-  pub opens : OpensOnce old name new
-  pub file : IsOpen old name new
-  pub first : IfSome new.held (λ file. is_faulty file found)
-  pub kind : is_named found.kind ≡ true
-  pub nothing : out' ≡ out
+-- what a command promises
+pub record Promise : Type 1 where
+  -- how it ends, by what is outside before and after
+  pub ends : Outside → Outside → Ending → Type 0
+  -- what has to be outside for it to be done
+  pub is_ready : Outside → Type 0
+  -- whether it takes memory, how many files it opens, and whether it writes one
+  pub takes_memory : Bool
+  pub opens : Opens
+  pub writes : Bool
 
--- The source failed. Nothing was put.
-pub record LosesSource (name : List ℕ) (old new : SourceView) (out out' : SinkView) : Type 0 where
-  pub opens : OpensOnce old name new
-  pub cause : Rose old.faults new.faults
-  pub nothing : out' ≡ out
+-- a status that tells of the content of a file
+abbrev pub tells_of_file : Status → Bool
+tells_of_file Done = true
+tells_of_file Refused = true
+tells_of_file AskRefused = true
+tells_of_file _ = false
 
--- The file has no fault, and the sink failed. A front of the output was put.
-pub record LosesOut (is_sound : List ℕ → Type 0) (is_output : List ℕ → List ℕ → Type 0) (name : List ℕ) (old new : SourceView) (out out' : SinkView) : Type 0 where
-  pub opens : OpensOnce old name new
-  pub file : IsOpen old name new
-  pub sound : IfSome new.held is_sound
-  pub cause : Rose out.faults out'.faults
-  pub wrote : (text : List ℕ) × IfSome new.held (λ file. is_output file text) × GrowsByFront out.written text out'.written
+-- Where the status tells of a file, it is open.
+abbrev pub TellsOfOpenFile : SourceView → Status → Type 0
+TellsOfOpenFile source given = IsTrue (tells_of_file given) → IsSome source.size
 
--- The line was put, or a front of it where the sink failed.
-abbrev pub PutsLine : SinkView → List ℕ → SinkView → Type 0
-PutsLine old line new = Grows old.written line new.written ⊎ (Rose old.faults new.faults × GrowsByFront old.written line new.written)
+-- The source is called for the command's files alone.
+abbrev pub CallsSource : {S : Type 0} → Opens → S → S → SourceView → SourceView → Status → Type 0
+CallsSource NoFile source source' old new given = source' ≡ source
+CallsSource OneFile source source' old new given = (new.opened ≡ raised old.opened) × TellsOfOpenFile new given
+CallsSource MoreFiles source source' old new given = TellsOfOpenFile new given
 
--- The status of a command that ends so, without a fault or with one, and its line on `err`.
-abbrev pub EndsAs : (Option RunFault → Type 0) → SinkView → SinkView → Status → Type 0
-EndsAs ends err err' status.Done = ends None × (err' ≡ err)
-EndsAs ends err err' status.Refused = (found : Fault) × ends (Some (fault.Refused found)) × PutsLine err (refused_line found) err'
-EndsAs ends err err' status.WordsFault = ⊥
-EndsAs ends err err' status.SourceFault = ends (Some fault.Source) × PutsLine err source_line err'
-EndsAs ends err err' status.OutFault = ends (Some fault.Out) × PutsLine err out_line err'
-EndsAs ends err err' status.Memory = ends (Some fault.Memory) × PutsLine err memory_line err'
-EndsAs ends err err' status.AskRefused = ⊥
+-- The target is called by a command that writes a file, and created once at most.
+abbrev pub CallsTarget : {T : Type 0} → Bool → T → T → TargetView → TargetView → Type 0
+CallsTarget false target target' old new = target' ≡ target
+CallsTarget true target target' old new = (new.created ≡ old.created) ⊎ (new.created ≡ raised old.created)
 
--- the status of a fault, and its line on `err`
-abbrev pub Reports : RunFault → SinkView → SinkView → Status → Type 0
-Reports (fault.Refused found) err err' given = (given ≡ status.Refused) × PutsLine err (refused_line found) err'
-Reports fault.Source err err' given = (given ≡ status.SourceFault) × PutsLine err source_line err'
-Reports fault.Out err err' given = (given ≡ status.OutFault) × PutsLine err out_line err'
-Reports fault.Memory err err' given = (given ≡ status.Memory) × PutsLine err memory_line err'
+-- The run is done, or ran out of memory where the command takes any.
+abbrev pub IsDone : Bool → Status → Type 0
+IsDone takes_memory given = (given ≡ Done) ⊎ (IsTrue takes_memory × (given ≡ Memory))
+
+-- Where all is there and no call failed, the run is as good as done.
+abbrev pub IsComplete : Promise → Outside → Outside → Status → Type 0
+IsComplete promise before after given = promise.is_ready before → NoCallFails before after → IsDone promise.takes_memory given
+
+-- A command keeps its promise, by what its objects tell. It gives the source and the target back, and its ending.
+pub record Keeps {S T O : Type 0} (source_of : S → SourceView) (target_of : T → TargetView) (out_of : O → SinkView) (promise : Promise) (source : S) (target : T) (out : O) (given : S × T × Ending) (out' : O) : Type 0 where
+  pub ends : promise.ends (outside (source_of source) (target_of target) (out_of out)) (outside (source_of given.0) (target_of given.1) (out_of out')) given.2
+  pub complete : IsComplete promise (outside (source_of source) (target_of target) (out_of out)) (outside (source_of given.0) (target_of given.1) (out_of out')) (status_of given.2)
+  pub source_calls : CallsSource promise.opens source given.0 (source_of source) (source_of given.0) (status_of given.2)
+  pub target_calls : CallsTarget promise.writes target given.1 (target_of target) (target_of given.1)
+
+-- The command ended so, and the status and the line on `err` say how.
+abbrev pub EndsAs : (Ending → Type 0) → SinkView → SinkView → Status → Type 0
+EndsAs ends err err' given = (ending : Ending) × ends ending × (given ≡ status_of ending) × PutsLineOf err (line_of ending) err'
 
 -- The words ask for nothing, and word `at` is the first at fault: no object is called but `err`.
-pub record RefusesWords {S O : Type 0} (at : ℕ) (source source' : S) (out out' : O) (err err' : SinkView) (given : Status) : Type 0 where
-  pub status : given ≡ status.WordsFault
+pub record RefusesWords {S T O : Type 0} (at : ℕ) (source source' : S) (target target' : T) (out out' : O) (err err' : SinkView) (given : Status) : Type 0 where
+  pub status : given ≡ WordsFault
   pub source_back : source' ≡ source
+  pub target_back : target' ≡ target
   pub out_back : out' ≡ out
   pub line : PutsLine err (words_line at) err'
-
--- the file that a told stock has under a name
-abbrev pub stocked : SourceView → List ℕ → Option (List ℕ)
-stocked source name = option_and_then (λ files. get files name) source.stock
-
--- Where the source has the file and it has no fault, the run is as good as done, unless the source or the sink failed.
-abbrev pub IsDoneUnlessFailed : (List ℕ → Type 0) → (Status → Type 0) → List ℕ → SourceView → SourceView → SinkView → SinkView → Status → Type 0
-IsDoneUnlessFailed is_sound is_done name old new out out' given =
-    (file : List ℕ) → stocked old name ≡ Some file → is_sound file → ¬ Rose old.faults new.faults → ¬ Rose out.faults out'.faults
-    → is_done given

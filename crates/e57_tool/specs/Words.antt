@@ -1,42 +1,51 @@
 -- What the words of a command line ask for.
-use Rattle.std.specs.Prelude.{ℕ, Bool, not, if◌then◌else◌, List, [], ◌∷◌, Result, Ok, Err, codes, nat_eq}
-use Rattle.std.specs.List.{starts_with}
+use Rattle.std.specs.Prelude.{ℕ, if◌then◌else◌, List, [], ◌∷◌, Result, Ok, Err, codes}
 use Rattle.std.specs.Str.{bytes_eq}
+use Rattle.e57_tool.specs.Cursor.{Unread, next_place, at_end}
 use Rattle.e57_tool.specs.declared.words.Ask.{Ask}
-use Rattle.e57_tool.specs.declared.words.Ask.TheVariants.{Pages, Info}
+use Rattle.e57_tool.specs.declared.words.Ask.TheVariants.{Help, Version, Pages, Info}
 
 -- a command with its places
 pub data Command : Type 0 where
+  -- `--help`
+  HelpAsked : Command
+  -- `--version`
+  VersionAsked : Command
   -- `pages FILE`
   PagesOf : (file : List ℕ) → Command
   -- `info FILE`
   InfoOf : (file : List ℕ) → Command
 
--- a word that may stand in a place
-abbrev pub is_place : List ℕ → Bool
-is_place word = not (starts_with nat_eq word (codes "--"))
-
--- The one place that stands behind a command, or the number of the first word at fault, the command being word 0.
--- Where the place is missing, it is the number of words.
-abbrev pub place_of : List (List ℕ) → Result (List ℕ) ℕ
-place_of [] = Err 1
-place_of (file ∷ []) = if is_place file then Ok file else Err 1
-place_of (file ∷ more ∷ words) = Err (if is_place file then 2 else 1)
+-- the one place behind a command, and no word behind it
+abbrev pub only_place : Unread → Result (List ℕ) ℕ
+only_place unread = ended (next_place unread) where
+  ended : Result (List ℕ × Unread) ℕ → Result (List ℕ) ℕ
+  ended (Ok (file, rest)) = at_end file rest
+  ended (Err at) = Err at
 
 -- the command with its place
 abbrev pub with_place : (List ℕ → Command) → Result (List ℕ) ℕ → Result Command ℕ
 with_place command (Ok file) = Ok (command file)
 with_place command (Err at) = Err at
 
--- what the words ask for, or the number of the first word at fault
-unfoldable pub ask_of : List (List ℕ) → Result Command ℕ
-ask_of [] = Err 0
-ask_of (command ∷ words) =
-    if bytes_eq command (codes "pages") then with_place PagesOf (place_of words)
-    else if bytes_eq command (codes "info") then with_place InfoOf (place_of words)
+-- what a command with the words behind it asks for, or the number of the first word at fault
+unfoldable pub command_ask : List ℕ → Unread → Result Command ℕ
+command_ask command words =
+    if bytes_eq command (codes "--help") then at_end HelpAsked words
+    else if bytes_eq command (codes "--version") then at_end VersionAsked words
+    else if bytes_eq command (codes "pages") then with_place PagesOf (only_place words)
+    else if bytes_eq command (codes "info") then with_place InfoOf (only_place words)
     else Err 0
+
+-- What the words ask for, or the number of the first word at fault. The command is word 0. Where a place is missing, it is
+-- the number of words.
+abbrev pub ask_of : List (List ℕ) → Result Command ℕ
+ask_of [] = Err 0
+ask_of (command ∷ words) = command_ask command (record { at = 1; words = words })
 
 -- an ask as a command
 abbrev pub command_of : Ask → Command
+command_of Help = HelpAsked
+command_of Version = VersionAsked
 command_of (Pages file) = PagesOf file.now
 command_of (Info file) = InfoOf file.now

@@ -2,14 +2,17 @@
 #![tactic(auto)]
 
 mod commands;
+mod cursor;
+mod ending;
+mod info;
 mod lines;
+mod pages;
 mod program;
 mod status;
+mod text;
 mod words;
 
+pub use cursor::WordFault;
 pub use program::run;
 pub use status::Status;
-pub use words::{Ask, WordFault, read_words};
-
-#[cfg(test)]
-mod tests;
+pub use words::{Ask, read_words};

@@ -1,10 +1,10 @@
 //! Lines of text of bounded length.
 
-ghost use Rattle.std.specs.Prelude.{◌≡◌};
-ghost use Rattle.e57_tool.specs.Lines.{pages_line, refused_line, words_line};
+ghost use Rattle.std.specs.Prelude.{◌≡◌, ◌≤◌, ◌++◌, length};
+ghost use Rattle.e57_tool.specs.Lines.{pages_line, refused_line, second_line, fault_words, ask_numbers, ask_line, words_line};
 
 use arrayvec::ArrayString;
-use e57_base::Fault;
+use e57_base::{AskFault, Fault};
 use itoa::Buffer;
 
 /// Room for the longest line.
@@ -31,11 +31,66 @@ pub fn refused_line(fault: &Fault) -> Line
 {
     let mut line = Line::new();
     line.push_str("refused ");
+    push_fault(&mut line, fault);
+    line
+}
+
+/// `second KIND A B`
+pub fn second_line(fault: &Fault) -> Line
+    ensures { result.bytes ≡ second_line fault.now }
+{
+    let mut line = Line::new();
+    line.push_str("second ");
+    push_fault(&mut line, fault);
+    line
+}
+
+// Appends the kind and the two numbers of a fault, and a line feed.
+fn push_fault(line: &mut Line, fault: &Fault)
+    requires { length line.old.bytes ≤ 8 }
+    ensures { line.new.bytes ≡ line.old.bytes ++ fault_words fault.now }
+{
     line.push_str(fault.kind.name());
     line.push_str(" ");
     line.push_str(Buffer::new().format(fault.a));
     line.push_str(" ");
     line.push_str(Buffer::new().format(fault.b));
+    line.push_str("\n");
+}
+
+/// `ask WORD ASKED HAVE`, or `ask large`
+pub fn ask_line(fault: &AskFault) -> Line
+    ensures { result.bytes ≡ ask_line fault.now }
+{
+    match fault {
+        AskFault::Cloud { asked, have } => ask_numbers("cloud", *asked, *have),
+        AskFault::Blob { asked, have } => ask_numbers("blob", *asked, *have),
+        AskFault::Field { asked, have } => ask_numbers("field", *asked, *have),
+        AskFault::Keep { asked, have } => ask_numbers("keep", *asked, *have),
+        AskFault::NotInteger { asked, have } => ask_numbers("integer", *asked, *have),
+        AskFault::Range { asked, have } => ask_numbers("range", *asked, *have),
+        AskFault::Decimal { asked, have } => ask_numbers("decimal", *asked, *have),
+        AskFault::Clash { asked, have } => ask_numbers("clash", *asked, *have),
+        AskFault::Length { asked, have } => ask_numbers("length", *asked, *have),
+        AskFault::Header { asked, have } => ask_numbers("header", *asked, *have),
+        AskFault::Width { asked, have } => ask_numbers("width", *asked, *have),
+        AskFault::Cell { asked, have } => ask_numbers("cell", *asked, *have),
+        AskFault::Large => text_line("ask large\n"),
+    }
+}
+
+// A line of a word and two numbers.
+fn ask_numbers(word: &str, asked: u64, have: u64) -> Line
+    requires { length word.now ≤ 8 }
+    ensures { result.bytes ≡ ask_numbers word.now asked have }
+{
+    let mut line = Line::new();
+    line.push_str("ask ");
+    line.push_str(word);
+    line.push_str(" ");
+    line.push_str(Buffer::new().format(asked));
+    line.push_str(" ");
+    line.push_str(Buffer::new().format(have));
     line.push_str("\n");
     line
 }
@@ -48,5 +103,15 @@ pub fn words_line(at: u64) -> Line
     line.push_str("words ");
     line.push_str(Buffer::new().format(at));
     line.push_str("\n");
+    line
+}
+
+/// A line that has no number.
+pub fn text_line(text: &str) -> Line
+    requires { length text.now ≤ 96 }
+    ensures { result.bytes ≡ text.now }
+{
+    let mut line = Line::new();
+    line.push_str(text);
     line
 }

@@ -1,44 +1,33 @@
 //! The program as one function.
 
-ghost use Rattle.std.specs.Prelude.{◌≡◌, map, string_bytes, MatchResult, Some, None};
+ghost use Rattle.std.specs.Prelude.{◌≡◌, map, string_bytes, IfOk, IfErr};
 ghost use Rattle.e57_tool.specs.Words.{ask_of};
-ghost use Rattle.e57_tool.specs.Lines.{words_line};
-ghost use Rattle.e57_tool.specs.Run.{Reports, PutsLine, EndsAs, RefusesWords, IsDoneUnlessFailed};
-ghost use Rattle.e57_tool.specs.Commands.{CommandEnds, IsDoneFor, IsSoundFor, file_of};
+ghost use Rattle.e57_tool.specs.Ending.{status_of, line_of, PutsLineOf};
+ghost use Rattle.e57_tool.specs.Outside.{outside};
+ghost use Rattle.e57_tool.specs.Run.{EndsAs, IsComplete, CallsSource, CallsTarget, RefusesWords};
+ghost use Rattle.e57_tool.specs.Commands.{promise_of};
 
 use crate::commands::perform;
-use crate::lines::{refused_line, words_line};
+use crate::ending::Ending;
+use crate::lines::words_line;
 use crate::status::Status;
 use crate::words::read_words;
-use e57_base::{RunFault, Sink, Source, Target};
+use e57_base::{Sink, Source, Target};
 use std::alloc::Global;
 
-// Puts the line of a fault on `err`. That this may fail changes nothing.
-fn report<E: Sink>(fault: RunFault, err: &mut E) -> Status
-    ensures { Reports fault (E.view err.old) (E.view err.new) result }
+// Puts the line of an ending on `err`, where it has one. That this may fail changes nothing.
+fn report<E: Sink>(ending: Ending, err: &mut E) -> Status
+    ensures status { result ≡ status_of ending }
+    ensures line { PutsLineOf (E.view err.old) (line_of ending) (E.view err.new) }
 {
-    match fault {
-        RunFault::Refused(found) => {
-            let _ = err.put(refused_line(&found).as_str().as_bytes());
-            Status::Refused
-        }
-        RunFault::Source => {
-            let _ = err.put(b"source fault\n");
-            Status::SourceFault
-        }
-        RunFault::Out => {
-            let _ = err.put(b"output fault\n");
-            Status::OutFault
-        }
-        RunFault::Memory => {
-            let _ = err.put(b"out of memory\n");
-            Status::Memory
-        }
+    if let Some(line) = ending.line() {
+        let _ = err.put(line.as_str().as_bytes());
     }
+    ending.status()
 }
 
 /// Runs the program on the words of its command line. The source and the target are given back. It takes memory, save
-/// for the command `pages` and for words that ask for nothing.
+/// for `pages`, `--help`, `--version` and words that ask for nothing.
 pub fn run<S: Source, T: Target, O: Sink, E: Sink>(
     alloc: Global,
     words: &[String],
@@ -48,20 +37,29 @@ pub fn run<S: Source, T: Target, O: Sink, E: Sink>(
     err: &mut E,
 ) -> (Status, S, T)
     // The words ask for nothing: no object is called but `err`.
-    ensures words { MatchResult (ask_of (map string_bytes words.now)) (λ _. Unit {0}) (λ at. RefusesWords at source result.1 out.old out.new (E.view err.old) (E.view err.new) result.0) }
+    ensures words { IfErr (ask_of (map string_bytes words.now)) (λ at.
+        RefusesWords at source result.1 target result.2 out.old out.new (E.view err.old) (E.view err.new) result.0) }
 
     // How the command ends.
-    ensures outcome { MatchResult (ask_of (map string_bytes words.now))
-        (λ command. EndsAs (CommandEnds command (S.view source) (S.view result.1) (O.view out.old) (O.view out.new)) (E.view err.old) (E.view err.new) result.0)
-        (λ _. Unit {0}) }
+    ensures outcome { IfOk (ask_of (map string_bytes words.now)) (λ command.
+        EndsAs
+        ((promise_of command).ends
+        (outside (S.view source) (T.view target) (O.view out.old))
+        (outside (S.view result.1) (T.view result.2) (O.view out.new)))
+        (E.view err.old) (E.view err.new) result.0) }
 
-    // Where the source has the file, it has no fault and no call failed, the run is done.
-    ensures complete { MatchResult (ask_of (map string_bytes words.now))
-        (λ command. IsDoneUnlessFailed (IsSoundFor command) (IsDoneFor command) (file_of command) (S.view source) (S.view result.1) (O.view out.old) (O.view out.new) result.0)
-        (λ _. Unit {0}) }
+    // Where all is there that the command needs, and no call failed, the run is done.
+    ensures complete { IfOk (ask_of (map string_bytes words.now)) (λ command.
+        IsComplete (promise_of command)
+        (outside (S.view source) (T.view target) (O.view out.old))
+        (outside (S.view result.1) (T.view result.2) (O.view out.new))
+        result.0) }
 
-    // No command calls the target.
-    ensures target { result.2 ≡ target }
+    // The source is called for the command's files alone, and the target by a command that writes.
+    ensures source { IfOk (ask_of (map string_bytes words.now)) (λ command.
+        CallsSource (promise_of command).opens source result.1 (S.view source) (S.view result.1) result.0) }
+    ensures target { IfOk (ask_of (map string_bytes words.now)) (λ command.
+        CallsTarget (promise_of command).writes target result.2 (T.view target) (T.view result.2)) }
 {
     let ask = match read_words(words) {
         Ok(ask) => ask,
@@ -70,9 +68,6 @@ pub fn run<S: Source, T: Target, O: Sink, E: Sink>(
             return (Status::WordsFault, source, target);
         }
     };
-    let (source, result) = perform(alloc, ask, source, out);
-    match result {
-        Ok(()) => (Status::Done, source, target),
-        Err(fault) => (report(fault, err), source, target),
-    }
+    let (source, target, ending) = perform(alloc, ask, source, target, out);
+    (report(ending, err), source, target)
 }

@@ -1,63 +1,69 @@
-//! The words of a command line.
+//! What the words of a command line ask for.
 
 ghost use Rattle.std.specs.Prelude.{◌≡◌, Ok, Err, map, string_bytes, MatchResult};
-ghost use Rattle.e57_tool.specs.Words.{ask_of, command_of, place_of};
+ghost use Rattle.e57_tool.specs.Cursor.{unread, at_end};
+ghost use Rattle.e57_tool.specs.Words.{ask_of, command_ask, command_of, only_place};
+
+use crate::cursor::{Cursor, WordFault};
 
 /// What the words ask for: a command with its places.
 #[derive(Clone, Copy, Debug, PartialEq, Eq)]
 pub enum Ask<'a> {
+    /// `--help`
+    Help,
+    /// `--version`
+    Version,
     /// `pages FILE`
     Pages(&'a str),
     /// `info FILE`
     Info(&'a str),
 }
 
-/// The words ask for nothing.
-#[derive(Clone, Copy, Debug, PartialEq, Eq)]
-pub struct WordFault {
-    /// The number of the first word at fault, counted from 0; where a place is missing, the number of words.
-    pub at: u64,
+// The one place behind a command, a file's name, and no word behind it.
+fn only_place(mut words: Cursor<'_>) -> Result<&str, WordFault>
+    ensures { MatchResult result
+        (λ file. only_place (unread words.entry) ≡ Ok file.now)
+        (λ fault. only_place (unread words.entry) ≡ Err fault.at) }
+{
+    let file = words.place()?;
+    words.end()?;
+    Ok(file)
 }
 
-// The one place that stands behind a command, a file's name.
-fn file_of(words: &[String]) -> Result<&str, WordFault>
+// A command that has no place, and no word behind it.
+fn no_place<'a>(ask: Ask<'a>, words: Cursor<'a>) -> Result<Ask<'a>, WordFault>
     ensures { MatchResult result
-        (λ file. place_of (map string_bytes words.now) ≡ Ok file.now)
-        (λ fault. place_of (map string_bytes words.now) ≡ Err fault.at) }
+        (λ given. at_end (command_of ask.entry) (unread words.entry) ≡ Ok (command_of given))
+        (λ fault. at_end (command_of ask.entry) (unread words.entry) ≡ Err fault.at) }
 {
-    let [file, more @ ..] = words else {
-        return Err(WordFault { at: 1 });
-    };
-    if file.as_str().starts_with("--") {
-        return Err(WordFault { at: 1 });
+    words.end()?;
+    Ok(ask)
+}
+
+// What a command with the words behind it asks for.
+#[tactic(auto, unfolding(crate::specs::Words::command_ask))]
+fn read_command<'a>(command: &str, words: Cursor<'a>) -> Result<Ask<'a>, WordFault>
+    ensures { MatchResult result
+        (λ ask. command_ask command.now (unread words.entry) ≡ Ok (command_of ask))
+        (λ fault. command_ask command.now (unread words.entry) ≡ Err fault.at) }
+{
+    match command {
+        "--help" => no_place(Ask::Help, words),
+        "--version" => no_place(Ask::Version, words),
+        "pages" => Ok(Ask::Pages(only_place(words)?)),
+        "info" => Ok(Ask::Info(only_place(words)?)),
+        _ => Err(WordFault { at: 0 }),
     }
-    if !more.is_empty() {
-        return Err(WordFault { at: 2 });
-    }
-    Ok(file.as_str())
 }
 
 /// Reads the words of a command line, without the program's name. Takes no memory.
-#[tactic(auto, unfolding(crate::specs::Words::ask_of))]
 pub fn read_words(words: &[String]) -> Result<Ask<'_>, WordFault>
     ensures { MatchResult result
         (λ ask. ask_of (map string_bytes words.now) ≡ Ok (command_of ask))
         (λ fault. ask_of (map string_bytes words.now) ≡ Err fault.at) }
 {
-    let [command, places @ ..] = words else {
+    let [command, ..] = words else {
         return Err(WordFault { at: 0 });
     };
-    if command.as_str() == "pages" {
-        return match file_of(places) {
-            Ok(file) => Ok(Ask::Pages(file)),
-            Err(fault) => Err(fault),
-        };
-    }
-    if command.as_str() == "info" {
-        return match file_of(places) {
-            Ok(file) => Ok(Ask::Info(file)),
-            Err(fault) => Err(fault),
-        };
-    }
-    Err(WordFault { at: 0 })
+    read_command(command.as_str(), Cursor::behind_command(words))
 }

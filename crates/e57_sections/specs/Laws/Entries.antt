@@ -13,6 +13,7 @@ use Rattle.e57_layout.specs.Packing.{Block, chunk_packets}
 use Rattle.e57_layout.specs.Written.{physical, Spelled, records_packet, entries_packet, packet_bytes, packets_bytes, flagged, chunk_spelled, chunks_spelled, chunk_entries, entry_runs, level_spelled, level_size, upper_entries, index_spelled, root_place}
 use Rattle.e57_layout.specs.Laws.Standing.{Stands-front, Stands-behind}
 use Rattle.e57_layout.specs.Laws.Layouts.{IsEntry, ReadsData, data_packet-read}
+use Rattle.e57_layout.specs.Laws.Lists.{all-append}
 use Rattle.e57_layout.specs.Laws.Packing.{IsPacket}
 use Rattle.e57_layout.specs.Laws.Blocks.{block_records}
 use Rattle.e57_layout.specs.Laws.Chunks.{IsChunk, chunk_packets-packets}
@@ -20,12 +21,12 @@ use Rattle.e57_layout.specs.Laws.Index.{index_spelled-last, index_spelled-more, 
 use Rattle.e57_layout.specs.Laws.Written.{packet_bytes-some, length-packets_bytes-append}
 use Rattle.e57_layout.specs.declared.packet.Entry.{Entry}
 use Rattle.e57_layout.specs.declared.section.Section.{Section}
-use Rattle.e57_sections.specs.Section.{span_fault, logical_size}
+use Rattle.e57_page.specs.File.{span_fault, logical_size}
 use Rattle.e57_sections.specs.Index.{target_fault, each_fault, entry_fault, entries_below}
 use Rattle.e57_sections.specs.Chunks.{data_packets}
 use Rattle.e57_sections.specs.Laws.Spans.{AreRight, span-right}
 use Rattle.e57_sections.specs.Laws.Walks.{IsIndexPacket, IsSpelled, placed_from}
-use Rattle.e57_sections.specs.Laws.Indexes.{Rises, place-physical, physical-lt, HasIndex, level-sound, level-has, rest-has, entry_runs-fit, runs_few-more}
+use Rattle.e57_sections.specs.Laws.Indexes.{Rises, place-physical, physical-small, HasIndex, level-sound, level-has, rest-has, entry_runs-fit, runs_few-more}
 use Rattle.e57_sections.specs.Laws.Chunks.{HavePackets, placed-append, data-append}
 
 -- ---- entries of height 0
@@ -119,7 +120,7 @@ entries-room kinds q first [] small have near = tt
 entries-room kinds q first (chunk ∷ chunks) small have near =
     let some : 0 < chunk.count = have.0 in
     let within = rw (chunks-cons kinds chunk chunks, length-append (packets_bytes (flagged true (chunk_packets kinds chunk))) (packets_bytes (chunks_spelled kinds chunks))) at near in (
-      record { first = omega arith; place = physical-lt q (omega arith) },
+      record { first = omega arith; place = physical-small q (omega arith) },
       entries-room kinds (q + length (packets_bytes (flagged true (chunk_packets kinds chunk)))) (first + chunk.count) chunks (omega arith) have.1 (omega arith),
     )
 
@@ -129,10 +130,6 @@ block_records-count [] have = omega arith
 block_records-count (chunk ∷ chunks) have = let rest = block_records-count chunks have.1 in omega (arith, have.0)
 
 -- ---- packets that fit
-
-pub all-append : {X : Type 0} (P : X → Type 0) (xs ys : List X) → AllByRecursion P xs → AllByRecursion P ys → AllByRecursion P (xs ++ ys)
-all-append P [] ys first later = later
-all-append P (x ∷ xs) ys first later = (first.0, all-append P xs ys first.1 later)
 
 flagged-fit : (n : ℕ) (restart : Bool) (parts : List (List (List ℕ))) → AllByRecursion (IsPacket n) parts → AllByRecursion (IsSpelled n) (flagged restart parts)
 unfolding flagged

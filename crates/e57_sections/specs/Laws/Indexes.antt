@@ -16,7 +16,7 @@ use Rattle.e57_layout.specs.Laws.Layouts.{IsEntry, index_packet-read, length-ind
 use Rattle.e57_layout.specs.Laws.Index.{IsEntryRun, entry_runs-are, entry_runs-all, entry_runs-joined, entry_runs-count, length-upper_entries, index_spelled-last, index_spelled-more, root_place-last, root_place-more}
 use Rattle.e57_layout.specs.declared.packet.Entry.{Entry}
 use Rattle.e57_layout.specs.declared.section.Section.{Section}
-use Rattle.e57_sections.specs.Section.{span_fault, logical_size}
+use Rattle.e57_page.specs.File.{span_fault, logical_size}
 use Rattle.e57_sections.specs.Index.{known_place, entries_of, is_misshapen_index, rises, begins_and_rises, index_start_fault, index_shape_fault, index_packet_fault, next_first, each_fault, entry_fault, entries_below, root_level, root_fault, index_fault, entries}
 use Rattle.e57_sections.specs.Laws.Spans.{AreRight, span-right, or-none}
 use Rattle.e57_sections.specs.Laws.Walks.{IsIndexPacket}
@@ -34,9 +34,9 @@ place-physical q = rw (lt-ltb ((q / 1020 * 1024 + q % 1020) % 1024) 1020 (low q)
     whole : (q : ℕ) → (q / 1020 * 1024 + q % 1020) / 1024 * 1020 + (q / 1020 * 1024 + q % 1020) % 1024 ≡ q
     whole q = omega arith
 
-pub physical-lt : (q : ℕ) → q ≤ 2 ^ 60 → physical q < 2 ^ 64
+pub physical-small : (q : ℕ) → q ≤ 2 ^ 60 → physical q < 2 ^ 64
 unfolding physical
-physical-lt q small = omega arith
+physical-small q small = omega arith
 
 -- ---- records that rise
 
@@ -247,7 +247,7 @@ upper-room level q least bound [] small near up = tt
 upper-room level q least bound (run ∷ runs) small near up =
     let size : length (index_packet level run) ≡ index_size (length run) = length-index_packet level run in
     let sizes : length (index_packet level run ++ packets_bytes (level_spelled level runs)) ≡ length (index_packet level run) + length (packets_bytes (level_spelled level runs)) = length-append (index_packet level run) (packets_bytes (level_spelled level runs)) in
-    (record { first = omega (arith, up.1); place = physical-lt q (omega arith) }, upper-room level (q + index_size (length run)) (first_record run + 1) bound runs small (omega arith) up.2)
+    (record { first = omega (arith, up.1); place = physical-small q (omega arith) }, upper-room level (q + index_size (length run)) (first_record run + 1) bound runs small (omega arith) up.2)
 
 -- ---- the whole index
 

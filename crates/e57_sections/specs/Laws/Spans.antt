@@ -7,7 +7,7 @@ use Rattle.e57_base.specs.declared.fault.Fault.{Fault}
 use Rattle.e57_page.specs.Place.{span_end}
 use Rattle.e57_page.specs.File.{page_fault, pages_fault}
 use Rattle.e57_page.specs.FileLaws.{pages_fault-zero, pages_fault-suc}
-use Rattle.e57_sections.specs.Section.{span_fault, logical_size}
+use Rattle.e57_page.specs.File.{span_fault, logical_size}
 
 -- no page of the file has a fault
 abbrev pub AreRight : List ℕ → Type 0
@@ -20,7 +20,6 @@ pages-right file n (suc count) right within =
 
 -- where the pages are right, a span in the file has no fault
 pub span-right : (file : List ℕ) (q n : ℕ) → AreRight file → q + n ≤ logical_size file → span_fault file q n ≡ None
-unfolding span_fault logical_size
 span-right file q n right within = pages-right file (q / 1020) (span_end q n - q / 1020) right (bound q n (length file / 1024) within)
   where
     bound : (q n size : ℕ) → q + n ≤ size * 1020 → q / 1020 + (span_end q n - q / 1020) ≤ size

@@ -14,7 +14,7 @@ use Rattle.e57_layout.specs.Laws.Layouts.{data_packet-read, length-data_packet, 
 use Rattle.e57_layout.specs.Laws.Packing.{IsPacket}
 use Rattle.e57_layout.specs.declared.packet.Entry.{Entry}
 use Rattle.e57_layout.specs.declared.section.Section.{Section}
-use Rattle.e57_sections.specs.Section.{span_fault, logical_size}
+use Rattle.e57_page.specs.File.{span_fault, logical_size}
 use Rattle.e57_sections.specs.Walk.{Packet, packet_at, packet_head_fault, is_misshapen_data, packet_fault, Walk, onward, walk, walk_from}
 use Rattle.e57_sections.specs.Laws.Spans.{AreRight, span-right}
 
@@ -24,7 +24,7 @@ IsWalk file s q [] = s.end < q + 4
 IsWalk file s q (packet ∷ packets) =
     (q + 4 ≤ s.end) × (packet_fault file s q ≡ None) × (packet ≡ packet_at (logical file) q) × IsWalk file s (q + length_at (logical file) q) packets
 
-length_at-some : (b : List ℕ) (q : ℕ) → 0 < length_at b q
+pub length_at-some : (b : List ℕ) (q : ℕ) → 0 < length_at b q
 unfolding length_at
 length_at-some b q = omega arith
 

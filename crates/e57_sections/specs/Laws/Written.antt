@@ -15,6 +15,7 @@ use Rattle.e57_layout.specs.Written.{physical, Spelled, packet_bytes, packets_by
 use Rattle.e57_layout.specs.Laws.Standing.{Stands-front, Stands-behind, Stands-past, Stands-within}
 use Rattle.e57_page.specs.FileLaws.{length-logical}
 use Rattle.e57_layout.specs.Laws.Layouts.{length-section_head, section_head-read}
+use Rattle.e57_layout.specs.Laws.Lists.{all-append}
 use Rattle.e57_layout.specs.Laws.Items.{IsKind}
 use Rattle.e57_layout.specs.Laws.Blocks.{block_records, IsBlock, blocks-are, blocks-records, blocks-step, blocks-column, columns-at, columns-length}
 use Rattle.e57_layout.specs.Laws.Chunks.{IsChunk, chunk_packets-some}
@@ -22,7 +23,8 @@ use Rattle.e57_layout.specs.Laws.Written.{length-packets_bytes-append, length-ch
 use Rattle.e57_layout.specs.declared.packet.Entry.{Entry}
 use Rattle.e57_layout.specs.declared.field.Fixed.{Fixed}
 use Rattle.e57_layout.specs.declared.section.Section.{Section}
-use Rattle.e57_sections.specs.Section.{span_fault, logical_size, section_header_fault, section_fault, section_at}
+use Rattle.e57_page.specs.File.{span_fault, logical_size}
+use Rattle.e57_sections.specs.Section.{section_header_fault, section_fault, section_at}
 use Rattle.e57_sections.specs.Walk.{walk_from}
 use Rattle.e57_sections.specs.Index.{index_fault, entries, next_first}
 use Rattle.e57_sections.specs.Chunks.{data_packets, by_chunk, packets_by_chunk, first_records, chunks, chunks_fault}
@@ -30,9 +32,9 @@ use Rattle.e57_sections.specs.Cloud.{Leaf, Cloud, float_from, body_fault, cloud_
 use Rattle.e57_sections.specs.Laws.Columns.{kinds_of, AreFields, fields-found}
 use Rattle.e57_sections.specs.Laws.Spans.{span-right, AreRight}
 use Rattle.e57_sections.specs.Laws.Walks.{placed_from, placed-walk_from, IsSpelled}
-use Rattle.e57_sections.specs.Laws.Indexes.{place-physical, physical-lt, HasIndex, index-sound}
+use Rattle.e57_sections.specs.Laws.Indexes.{place-physical, physical-small, HasIndex, index-sound}
 use Rattle.e57_sections.specs.Laws.Chunks.{HavePackets, placed_chunks, placed-append, data-append, data-chunks, by_chunk-placed, starts-agree, spelled_chunks, records-agree}
-use Rattle.e57_sections.specs.Laws.Entries.{HasChunks, HaveRecords, below-zero, entries-sound, entries-rise, entries-room, block_records-count, all-append, chunks-fit, index-fit, index-no_data, root-within}
+use Rattle.e57_sections.specs.Laws.Entries.{HasChunks, HaveRecords, below-zero, entries-sound, entries-rise, entries-room, block_records-count, chunks-fit, index-fit, index-no_data, root-within}
 
 -- ---- the packets of a section
 
@@ -181,7 +183,6 @@ written_section node q n count leaves columns = record {
 }
 
 written-within : (file : List ℕ) (q n count : ℕ) (leaves : List Leaf) (columns : List (List Value)) → IsWritten file q n count leaves columns → q + (32 + length (packets_bytes (packets_spelled (q + 32) (kinds_of leaves) n count columns))) ≤ logical_size file
-unfolding logical_size
 written-within file q n count leaves columns is =
     let size = length-section_spelled q (kinds_of leaves) n count columns in
     let inside = Stands-within (logical file) q (section_spelled q (kinds_of leaves) n count columns) is.stands (omega arith) in
@@ -229,7 +230,7 @@ written-header file q n count leaves columns is =
     let root = root-within 5 0 (index_from kinds (q + 32) (blocks n count columns)) (body_entries kinds (q + 32) (blocks n count columns)) in
     let size = length-packets_bytes-append (chunks_spelled kinds (blocks n count columns)) (index_spelled 5 0 (index_from kinds (q + 32) (blocks n count columns)) (body_entries kinds (q + 32) (blocks n count columns))) in
     section_head-read (logical file) q (header_for q kinds n count columns)
-    (record { id = lit< tt; length = omega arith; data_place = physical-lt (q + 32) (omega arith); index = physical-lt (root_for (q + 32) kinds n count columns) (omega (arith, root.1)) })
+    (record { id = lit< tt; length = omega arith; data_place = physical-small (q + 32) (omega arith); index = physical-small (root_for (q + 32) kinds n count columns) (omega (arith, root.1)) })
     (Stands-front (logical file) q (section_head (header_for q kinds n count columns)) (packets_bytes (packets_spelled (q + 32) kinds n count columns)) is.stands)
 
 -- the header has no fault

@@ -1,4 +1,4 @@
-use Rattle.std.proofs.Common.{length, refl, ◌∙◌, arith}
+use Rattle.std.proofs.Common.{length, refl, ◌∙◌}
 use Rattle.e57_page.proofs.Pieces.{has_read_none, has_read_more, is_cut, page_short}
 use Rattle.e57_page.proofs.pages.Pages.read.Goals as goal
 

@@ -1,0 +1,5 @@
+pub mod Fields
+pub mod Vectors
+pub mod Items
+pub mod Packs
+pub mod PackedItems

@@ -1,0 +1,5 @@
+pub mod Progress
+pub mod Feeds
+pub mod Steps
+pub mod Holds
+pub mod HoldsLaws

@@ -1,0 +1,43 @@
+-- The words of a command line, read one after another.
+use Rattle.std.specs.Prelude.{ℕ, ◌+◌, Bool, not, if◌then◌else◌, List, [], ◌∷◌, map, drop, Option, Some, None, Result, Ok, Err, codes, nat_eq}
+use Rattle.std.specs.List.{starts_with}
+use Rattle.std.specs.String.{string_bytes}
+use Rattle.e57_tool.specs.declared.cursor.Cursor.{Cursor}
+
+-- the words that are still to be read, and the number of the first of them
+pub record Unread : Type 0 where
+  pub at : ℕ
+  pub words : List (List ℕ)
+
+-- the words from this number on
+abbrev pub unread_from : ℕ → List (List ℕ) → Unread
+unread_from at words = record { at = at; words = drop at words }
+
+-- the words that a cursor has not read
+abbrev pub unread : Cursor → Unread
+unread cursor = unread_from cursor.next (map string_bytes cursor.words.now)
+
+-- a word that may stand in a place
+abbrev pub is_place : List ℕ → Bool
+is_place word = not (starts_with nat_eq word (codes "--"))
+
+-- the next word, which may stand in a place, and the words behind it; or the number of the word at fault
+abbrev pub next_place : Unread → Result (List ℕ × Unread) ℕ
+next_place unread = placed unread.at unread.words where
+  placed : ℕ → List (List ℕ) → Result (List ℕ × Unread) ℕ
+  placed at [] = Err at
+  placed at (word ∷ words) = if is_place word then Ok (word, record { at = at + 1; words = words }) else Err at
+
+-- the number of the next word, where one is left
+abbrev pub left_over : Unread → Option ℕ
+left_over unread = next unread.words where
+  next : List (List ℕ) → Option ℕ
+  next [] = None
+  next (word ∷ words) = Some unread.at
+
+-- what was read, where no word is left; or the number of the next word
+abbrev pub at_end : {A : Type 0} → A → Unread → Result A ℕ
+at_end {A} read unread = ended (left_over unread) where
+  ended : Option ℕ → Result A ℕ
+  ended None = Ok read
+  ended (Some at) = Err at

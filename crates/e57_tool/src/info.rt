@@ -1,0 +1,41 @@
+//! `info FILE`
+
+ghost use Rattle.e57_tool.specs.FileAnswer.{ReadsFile};
+ghost use Rattle.e57_tool.specs.Run.{Keeps};
+ghost use Rattle.e57_tool.specs.Info.{info_rule, info_answer, info_promise};
+
+use crate::ending::Ending;
+use e57_base::{RunFault, Sink, Source, Target};
+use e57_page::open_file;
+use e57_show::info;
+use std::alloc::Global;
+
+// Opens the file, and puts the written spelling of its element tree and a line feed on `out`.
+fn show_file<S: Source, O: Sink>(alloc: Global, name: &str, source: S, out: &mut O) -> (S, Ending)
+    ensures { ReadsFile info_answer info_rule name.now
+        (S.view source) (S.view result.0) (O.view out.old) (O.view out.new) result.1 }
+{
+    let mut pages = match open_file(name, source) {
+        Ok(pages) => pages,
+        Err((source, fault)) => return (source, Ending::Failed(RunFault::from(fault))),
+    };
+    match info(alloc, &mut pages, out) {
+        Ok(()) => (pages.into_source(), Ending::Done),
+        Err(fault) => (pages.into_source(), Ending::Failed(fault)),
+    }
+}
+
+/// Opens the file, and puts the written spelling of its element tree and a line feed on `out`. Takes memory for the
+/// text of the XML section and its tree.
+pub fn show_info<S: Source, T: Target, O: Sink>(
+    alloc: Global,
+    name: &str,
+    source: S,
+    target: T,
+    out: &mut O,
+) -> (S, T, Ending)
+    ensures { Keeps S.view T.view O.view (info_promise name.now) source target out.old result out.new }
+{
+    let (source, ending) = show_file(alloc, name, source, out);
+    (source, target, ending)
+}

@@ -1,0 +1,48 @@
+//! `--help` and `--version`.
+
+ghost use Rattle.e57_tool.specs.Run.{Keeps};
+ghost use Rattle.e57_tool.specs.Text.{putting, help_text, version_text};
+
+use crate::ending::Ending;
+use e57_base::{RunFault, Sink, Source, Target};
+
+/// The commands with their words, and the statuses.
+const HELP: &str = "e57 pages FILE   test the checksums of all pages
+e57 info FILE    show the element tree
+e57 --help       show this text
+e57 --version    show the version
+status 0   done
+status 1   the file has a fault
+status 2   the words ask for nothing
+status 3   the file couldn't be opened or read
+status 4   the output couldn't be written
+status 5   out of memory
+status 6   the file doesn't have what was asked for
+";
+
+/// The name and the version.
+const VERSION: &str = "e57 0.1.0\n";
+
+/// Puts the help on `out`.
+pub fn put_help<S: Source, T: Target, O: Sink>(source: S, target: T, out: &mut O) -> (S, T, Ending)
+    ensures { Keeps S.view T.view O.view (putting help_text) source target out.old result out.new }
+{
+    match out.put(HELP.as_bytes()) {
+        Ok(()) => (source, target, Ending::Done),
+        Err(_) => (source, target, Ending::Failed(RunFault::Out)),
+    }
+}
+
+/// Puts the name and the version on `out`.
+pub fn put_version<S: Source, T: Target, O: Sink>(
+    source: S,
+    target: T,
+    out: &mut O,
+) -> (S, T, Ending)
+    ensures { Keeps S.view T.view O.view (putting version_text) source target out.old result out.new }
+{
+    match out.put(VERSION.as_bytes()) {
+        Ok(()) => (source, target, Ending::Done),
+        Err(_) => (source, target, Ending::Failed(RunFault::Out)),
+    }
+}
