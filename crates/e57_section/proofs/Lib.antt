@@ -1,1 +1,5 @@
-
+pub mod Moved
+pub mod Spans
+pub mod Heads
+pub mod Shapes
+pub mod Streams

@@ -60,9 +60,9 @@ pub record OpensSection (old : SourceView) (kept : List ℕ) (size node offset c
   pub keeps : KeepsSpan kept s.start 32 now
   pub place : place offset ≡ Some s.start
   pub lies : LiesIn s size
-  pub node : s.node ≡ node
-  pub fields : s.fields ≡ fields
-  pub count : s.count ≡ count
+  pub of_node : s.node ≡ node
+  pub has_fields : s.fields ≡ fields
+  pub has_records : s.count ≡ count
   pub sound : IfSome old.held (λ file. section_fault file node offset ≡ None)
   pub read : IfSome old.held (λ file. s ≡ section_at file node offset count fields)
 

@@ -14,7 +14,8 @@ use Rattle.e57_layout.specs.declared.section.Section.{Section}
 use Rattle.e57_layout.specs.declared.packet.PacketHead.{PacketHead}
 use Rattle.e57_layout.specs.Packets.{packet_head_at, lengths_at}
 use Rattle.e57_packet.specs.Reading.{is_misshapen, stream_ends}
-use Rattle.e57_sections.specs.Section.{span_fault, when}
+use Rattle.e57_page.specs.File.{span_fault}
+use Rattle.e57_sections.specs.Section.{when}
 use Rattle.e57_sections.specs.Walk.{packet_head_fault}
 use Rattle.e57_section.specs.Asking.{AsksSpan, KeepsSpan, KeepsOnly}
 use Rattle.e57_section.specs.Streams.{first_stream}
@@ -26,6 +27,11 @@ is_packet_kind PacketType = true
 is_packet_kind PacketLength = true
 is_packet_kind DataShape = true
 is_packet_kind _ = false
+
+-- why the n bytes from place q on weren't read: the first of their pages that is wrong, or the source failed
+abbrev pub IsSpanCause : SourceView → ℕ → ℕ → ReadFault → SourceView → Type 0
+IsSpanCause old q n (Refused found) new = (found.kind ≡ Page) × IfSome old.held (λ file. span_fault file q n ≡ Some found)
+IsSpanCause old q n Source new = Rose old.faults new.faults
 
 -- The first four bytes of the packet at place q were read.
 pub record ReadsHead (old : SourceView) (kept : List ℕ) (s : Section) (q : ℕ) (head : PacketHead) (new : SourceView) (now : List ℕ) : Type 0 where
@@ -50,11 +56,11 @@ pub record LosesHead (old : SourceView) (kept : List ℕ) (s : Section) (q : ℕ
   pub cause : IsHeadCause old s q found new
 
 -- All bytes of the data packet at place q were read, and the ends of its streams were set.
-pub record ReadsData (old : SourceView) (kept : List ℕ) (q n fields : ℕ) (bytes ends : List ℕ) (new : SourceView) (now : List ℕ) : Type 0 where
+pub record ReadsData (old : SourceView) (kept : List ℕ) (q n fields : ℕ) (bytes reached : List ℕ) (new : SourceView) (now : List ℕ) : Type 0 where
   pub source : AsksSpan kept q n old new
   pub keeps : KeepsSpan kept q n now
   pub shape : is_misshapen bytes fields ≡ false
-  pub ends : ends ≡ stream_ends (first_stream fields) (lengths_at bytes 6 fields)
+  pub ends : reached ≡ stream_ends (first_stream fields) (lengths_at bytes 6 fields)
   pub right : IfSome old.held (λ file. span_fault file q n ≡ None)
   pub read : IfSome old.held (λ file. bytes ≡ take n (drop q (logical file)))
 

@@ -1,5 +1,5 @@
 -- The streams of a data packet in a buffer.
-use Rattle.std.specs.Prelude.{◌≡◌, ℕ, zero, suc, ◌+◌, ◌-◌, ◌*◌, ◌≤◌, List, [], ◌∷◌, length, take, drop, Option, Some, None, IfSome}
+use Rattle.std.specs.Prelude.{◌≡◌, ℕ, zero, suc, ◌+◌, ◌-◌, ◌*◌, ◌≤◌, List, [], ◌∷◌, length, take, drop, slice_index, Option, Some, None, IfSome}
 use Rattle.std.specs.Option.{option_map}
 
 -- how many bytes a packet has at most
@@ -19,6 +19,11 @@ pieces begin (end ∷ ends) bytes = take (end - begin) (drop begin bytes) ∷ pi
 abbrev pub EndsWithin : ℕ → ℕ → List ℕ → Type 0
 EndsWithin begin most [] = begin ≤ most
 EndsWithin begin most (end ∷ ends) = (begin ≤ end) × EndsWithin end most ends
+
+-- where stream f begins, by the end of the one before it
+abbrev pub stream_begin : ℕ → List ℕ → ℕ → ℕ
+stream_begin begin ends zero = begin
+stream_begin begin ends (suc f) = slice_index ends f
 
 -- the streams that are held: none, or so many
 abbrev pub held_streams : Option ℕ → List ℕ → List ℕ → Option (List (List ℕ))

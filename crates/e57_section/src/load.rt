@@ -55,6 +55,8 @@ pub fn load_packet<S: Source>(
         (λ found. LosesPacket (S.view pages.old.source) pages.old.kept section.now at found buf.new (S.view pages.new.source) pages.new.kept) }
 {
     let section = *section;
+    let size = pages.logical_len();
+    prove!(section.end <= size);
     buf.fields = None;
     let head = match read_head(&section, pages, at) {
         Ok(head) => head,
@@ -67,9 +69,7 @@ pub fn load_packet<S: Source>(
     if head.sort != DATA_PACKET {
         return Ok(Loaded::Empty { length });
     }
-    let bytes = &mut buf.bytes[..length as usize];
-    let ends = &mut buf.ends[..section.fields as usize];
-    if let Err(found) = read_data(section.node, pages, at, bytes, ends) {
+    if let Err(found) = read_data(&section, pages, at, length, &mut buf.bytes, &mut buf.ends) {
         return Err(found);
     }
     buf.fields = Some(section.fields);

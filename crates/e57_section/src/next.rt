@@ -15,8 +15,9 @@ pub fn next_packet(section: &Section, at: u64, length: u32) -> Option<u64>
         (section.now.end < at + length + 4)
         (λ next. (next ≡ at + length) × (next + 4 ≤ section.now.end)) }
 {
+    let end = section.end;
     let next = at + length as u64;
-    if section.end - next < PACKET_HEAD {
+    if end - next < PACKET_HEAD {
         None
     } else {
         Some(next)

@@ -1,7 +1,7 @@
 //! A buffer for a data packet.
 
-ghost use Rattle.std.specs.Prelude.{◌≡◌, ◌<◌, None, length, get_or, [], IfSome, IfOk, IsSomeAnd};
-ghost use Rattle.e57_section.specs.Streams.{held_streams, IsBuffer};
+ghost use Rattle.std.specs.Prelude.{◌≡◌, ◌<◌, ◌≤◌, None, length, get_or, [], IfSome, IfOk, IsSomeAnd};
+ghost use Rattle.e57_section.specs.Streams.{first_stream, stream_begin as the_stream_begin};
 
 use std::alloc::{AllocError, Global};
 use std::marker::Model;
@@ -54,16 +54,20 @@ impl Packet {
         ensures { IfSome self.now (λ streams. result.now ≡ get_or streams f []) }
     {
         let f = f as usize;
-        let begin = match self.fields {
-            Some(fields) => {
-                if f == 0 {
-                    6 + 2 * fields as usize
-                } else {
-                    self.ends[f - 1] as usize
-                }
-            }
-            None => 0,
-        };
-        &self.bytes[begin..self.ends[f] as usize]
+        let begin = stream_begin(self.fields.unwrap_or(0), &self.ends, f);
+        let end = self.ends[f] as usize;
+        &self.bytes[begin..end]
+    }
+}
+
+/// Where stream `f` of a packet with so many fields begins, whose streams have these ends.
+fn stream_begin(fields: u16, ends: &[u32], f: usize) -> usize
+    requires { f ≤ length ends.now }
+    ensures { result ≡ the_stream_begin (first_stream fields) ends.now f }
+{
+    if f == 0 {
+        6 + 2 * fields as usize
+    } else {
+        ends[f - 1] as usize
     }
 }
