@@ -1,5 +1,6 @@
 -- The streams that a buffer holds.
 use Rattle.std.specs.Prelude.{◌≡◌, ℕ, zero, suc, ◌+◌, ◌-◌, ◌*◌, ◌<◌, ◌≤◌, List, [], ◌∷◌, length, take, drop, get_or, slice_index, Option, Some, None, IfSome, IsSomeAnd, sum}
+use Rattle.std.specs.Option.{unwrap_or}
 use Rattle.std.proofs.Common.{refl, sym, subst, ap, ◌∙◌, arith, get_or-take}
 use Rattle.std.proofs.lemmas.List.{length-take}
 use Rattle.e57_section.specs.Streams.{first_stream, pieces, EndsWithin, stream_begin, held_streams, IsBuffer}
@@ -35,11 +36,7 @@ pub record HasStream (fields : ℕ) (ends bytes : List ℕ) (held : Option (List
   pub within : get_or ends f 0 ≤ 65536
   pub is : IfSome held (λ streams. take (get_or ends f 0 - stream_begin (first_stream fields) ends f) (drop (stream_begin (first_stream fields) ends f) bytes) ≡ get_or streams f [])
 
-abbrev pub or_none : Option ℕ → ℕ
-or_none None = 0
-or_none (Some n) = n
-
-pub has_stream : (fields : Option ℕ) (ends bytes : List ℕ) (held : Option (List (List ℕ))) (f : ℕ) → IsBuffer fields ends bytes → held_streams fields ends bytes ≡ held → IsSomeAnd held (λ streams. f < length streams) → HasStream (or_none fields) ends bytes held f
+pub has_stream : (fields : Option ℕ) (ends bytes : List ℕ) (held : Option (List (List ℕ))) (f : ℕ) → IsBuffer fields ends bytes → held_streams fields ends bytes ≡ held → IsSomeAnd held (λ streams. f < length streams) → HasStream (unwrap_or fields 0) ends bytes held f
 has_stream None ends bytes None f buffer is some = absurd some
 has_stream None ends bytes (Some streams) f buffer is some = absurd cc
 has_stream (Some n) ends bytes None f buffer is some = absurd some
