@@ -13,3 +13,6 @@ pub use header::open_section;
 pub use load::{Loaded, load_packet};
 pub use next::next_packet;
 pub use packet::Packet;
+
+#[cfg(test)]
+mod tests;
