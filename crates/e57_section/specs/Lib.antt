@@ -6,3 +6,4 @@ pub mod Loading
 pub mod Walking
 pub mod WalkingLaws
 pub mod AskingLaws
+pub mod StretchLaws

@@ -26,12 +26,12 @@ judged-bytes file s q p is = found (packet_fault file s q) is
     found None is = let same : packet_at (logical file) q ≡ p = cc in subst (λ (x : Packet). 0 < x.length) same (length_at-some (logical file) q)
     found (Some x) is = absurd cc
 
-walk_on-end : (judge : ℕ → Result Packet Fault) (limit fuel : ℕ) (fresh : Bool) (at : ℕ) → limit < at + 4 → walk_on judge limit fuel fresh at ≡ ended Ends
+pub walk_on-end : (judge : ℕ → Result Packet Fault) (limit fuel : ℕ) (fresh : Bool) (at : ℕ) → limit < at + 4 → walk_on judge limit fuel fresh at ≡ ended Ends
 unfolding walk_on
 walk_on-end judge limit zero fresh at past = refl
 walk_on-end judge limit (suc fuel) fresh at past = rw (lt-ltb limit (at + 4) past) refl
 
-walk_on-step : (judge : ℕ → Result Packet Fault) (limit fuel : ℕ) (fresh : Bool) (at : ℕ) → at + 4 ≤ limit → walk_on judge limit (suc fuel) fresh at ≡ stepped fresh at (judge at) (λ p. walk_on judge limit fuel (still_fresh fresh p) (at + p.length))
+pub walk_on-step : (judge : ℕ → Result Packet Fault) (limit fuel : ℕ) (fresh : Bool) (at : ℕ) → at + 4 ≤ limit → walk_on judge limit (suc fuel) fresh at ≡ stepped fresh at (judge at) (λ p. walk_on judge limit fuel (still_fresh fresh p) (at + p.length))
 unfolding walk_on
 walk_on-step judge limit fuel fresh at there = rw (le-ltb limit (at + 4) there) refl
 
