@@ -1,9 +1,9 @@
 -- What is answered of a packet, by the steps of its reading.
-use Rattle.std.specs.Prelude.{◌≡◌, ℕ, ◌+◌, ◌*◌, ◌/◌, ◌%◌, ◌<◌, ◌≤◌, ◌==◌, ◌||◌, ◌&&◌, not, nat_lt, Bool, true, false, List, length, take, drop, sum, Option, Some, None, is_none, IfSome, if◌then◌else◌}
+use Rattle.std.specs.Prelude.{◌≡◌, ℕ, ◌+◌, ◌*◌, ◌%◌, ◌≤◌, ◌==◌, ◌||◌, ◌&&◌, not, nat_lt, Bool, true, false, List, length, take, drop, Option, Some, None, is_none, IfSome, if◌then◌else◌}
 use Rattle.std.proofs.Common.{refl, sym, subst, ap, ◌∙◌, arith}
 use Rattle.std.proofs.lemmas.Bool.{eqb-true, eq-eqb, or_parts, not-false}
 use Rattle.std.proofs.lemmas.List.{length-take-le, length-drop}
-use Rattle.e57_base.specs.Count.{Rose, rose_before}
+use Rattle.e57_base.specs.Count.{rose_before}
 use Rattle.e57_base.specs.Fault.{fault}
 use Rattle.e57_base.specs.Source.{SourceView}
 use Rattle.e57_base.specs.Told.{told_map, told_both, told_here}
@@ -15,7 +15,7 @@ use Rattle.e57_page.specs.File.{logical, logical_size, span_fault}
 use Rattle.e57_page.specs.FileLaws.{length-logical}
 use Rattle.e57_layout.specs.declared.section.Section.{Section}
 use Rattle.e57_layout.specs.declared.packet.PacketHead.{PacketHead}
-use Rattle.e57_layout.specs.Packets.{sort_at, length_at, lengths_at, packet_head_at, restart_at, streams_at, streams_of, data_size}
+use Rattle.e57_layout.specs.Packets.{sort_at, length_at, lengths_at, packet_head_at, restart_at, streams_at, data_size}
 use Rattle.e57_layout.specs.Laws.Layouts.{restart_at-flags}
 use Rattle.e57_packet.specs.Reading.{is_misshapen, stream_ends}
 use Rattle.e57_sections.specs.Section.{when}
@@ -27,8 +27,8 @@ use Rattle.e57_section.specs.declared.load.Loaded.TheVariants.{Stream, Index, Em
 use Rattle.e57_section.specs.Steps.{ReadsHead, LosesHead, ReadsData, LosesData, data_fault, IsHeadCause, IsDataCause}
 use Rattle.e57_section.specs.Streams.{first_stream, pieces, EndsWithin, IsBuffer}
 use Rattle.e57_section.specs.Loading.{LoadsPacket, LosesPacket, IsPacketCause, IsLoaded}
-use Rattle.e57_section.proofs.Packets.{fault_head, fault_other, fault_data, needed_other, needed_data, sound_shape, ends_within, pieces_are, streams_take, streams_piece, count_streams, count_lengths, size_streams}
-use Rattle.e57_section.proofs.Loads.{asks_head, asks_all, keeps_all, only_more, only_all}
+use Rattle.e57_section.proofs.Packets.{fault_head, fault_other, fault_data, needed_data, sound_shape, ends_within, pieces_are, streams_take, streams_piece, count_streams, count_lengths, size_streams}
+use Rattle.e57_section.proofs.Loads.{asks_head, asks_all, keeps_all, only_all}
 
 -- ---- how many bytes are needed
 
@@ -130,15 +130,16 @@ piece_length file size q n same within =
     length-take-le n (drop q (logical file)) (rw length-drop (omega (arith, all, same, within)))
 
 data_cause : (old mid new : SourceView) (s : Section) (q size : ℕ) (head : PacketHead) (found : ReadFault) → mid.held ≡ old.held → old.faults ≤ mid.faults → IfSome old.held (λ file. logical_size file ≡ size) → q + head.length ≤ size → head.sort ≡ 1 → IfSome old.held (λ file. packet_head_fault file s q ≡ None) → IfSome old.held (λ file. head ≡ packet_head_at (logical file) q) → IsDataCause mid s.node q head.length s.fields found new → IsPacketCause old s q found new
-data_cause old mid new s q size head (Refused found) same faults told within one sound read cause =
-    (cause.0,
-     told_both (λ file. (logical_size file ≡ size) × (packet_head_fault file s q ≡ None)) (λ file. (head ≡ packet_head_at (logical file) q) × (data_fault file s.node q head.length s.fields ≡ Some found)) (λ file. packet_fault file s q ≡ Some found) old.held
-     (λ file a b.
-       let facts = head_facts file q head b.0 in
-       fault_data file s q head.length (Some found) a.1 (sym facts.0 ∙ one) facts.1 (piece_length file size q head.length a.0 within) b.1)
-     (told_both (λ file. logical_size file ≡ size) (λ file. packet_head_fault file s q ≡ None) (λ file. (logical_size file ≡ size) × (packet_head_fault file s q ≡ None)) old.held (λ file a b. (a, b)) told sound)
-     (told_both (λ file. head ≡ packet_head_at (logical file) q) (λ file. data_fault file s.node q head.length s.fields ≡ Some found) (λ file. (head ≡ packet_head_at (logical file) q) × (data_fault file s.node q head.length s.fields ≡ Some found)) old.held (λ file a b. (a, b)) read
-       (told_here (λ file. data_fault file s.node q head.length s.fields ≡ Some found) mid.held old.held (sym same) cause.1)))
+data_cause old mid new s q size head (Refused found) same faults told within one sound read cause = (
+  cause.0,
+  told_both (λ file. (logical_size file ≡ size) × (packet_head_fault file s q ≡ None)) (λ file. (head ≡ packet_head_at (logical file) q) × (data_fault file s.node q head.length s.fields ≡ Some found)) (λ file. packet_fault file s q ≡ Some found) old.held
+      (λ file a b.
+      let facts = head_facts file q head b.0 in
+      fault_data file s q head.length (Some found) a.1 (sym facts.0 ∙ one) facts.1 (piece_length file size q head.length a.0 within) b.1)
+      (told_both (λ file. logical_size file ≡ size) (λ file. packet_head_fault file s q ≡ None) (λ file. (logical_size file ≡ size) × (packet_head_fault file s q ≡ None)) old.held (λ file a b. (a, b)) told sound)
+      (told_both (λ file. head ≡ packet_head_at (logical file) q) (λ file. data_fault file s.node q head.length s.fields ≡ Some found) (λ file. (head ≡ packet_head_at (logical file) q) × (data_fault file s.node q head.length s.fields ≡ Some found)) old.held (λ file a b. (a, b)) read
+      (told_here (λ file. data_fault file s.node q head.length s.fields ≡ Some found) mid.held old.held (sym same) cause.1)),
+)
 data_cause old mid new s q size head Source same faults told within one sound read cause = rose_before old.faults mid.faults new.faults faults cause
 
 needed_length : (old : SourceView) (s : Section) (q : ℕ) (head : PacketHead) → head.sort ≡ 1 → IfSome old.held (λ file. packet_head_fault file s q ≡ None) → IfSome old.held (λ file. head ≡ packet_head_at (logical file) q) → IfSome old.held (λ file. head.length ≤ needed_at file s q)
@@ -173,10 +174,10 @@ sound_data : (old : SourceView) (s : Section) (q : ℕ) (head : PacketHead) (pie
 sound_data old s q head piece one long sound none is right read =
     told_both (λ file. (packet_head_fault file s q ≡ None) × (head ≡ packet_head_at (logical file) q)) (λ file. (span_fault file q head.length ≡ None) × (piece ≡ take head.length (drop q (logical file)))) (λ file. packet_fault file s q ≡ None) old.held
     (λ file a b.
-      let facts = head_facts file q head a.1 in
-      let long' : length (take head.length (drop q (logical file))) ≡ head.length = sym (ap (λ (l : List ℕ). length l) b.1) ∙ long in
-      let shape : is_misshapen (take head.length (drop q (logical file))) s.fields ≡ false = subst (λ (l : List ℕ). is_misshapen l s.fields ≡ false) b.1 sound in
-      fault_data file s q head.length None a.0 (sym facts.0 ∙ one) facts.1 long' (rw (b.0, shape) refl))
+    let facts = head_facts file q head a.1 in
+    let long' : length (take head.length (drop q (logical file))) ≡ head.length = sym (ap (λ (l : List ℕ). length l) b.1) ∙ long in
+    let shape : is_misshapen (take head.length (drop q (logical file))) s.fields ≡ false = subst (λ (l : List ℕ). is_misshapen l s.fields ≡ false) b.1 sound in
+    fault_data file s q head.length None a.0 (sym facts.0 ∙ one) facts.1 long' (rw (b.0, shape) refl))
     (told_both (λ file. packet_head_fault file s q ≡ None) (λ file. head ≡ packet_head_at (logical file) q) (λ file. (packet_head_fault file s q ≡ None) × (head ≡ packet_head_at (logical file) q)) old.held (λ file a b. (a, b)) none is)
     (told_both (λ file. span_fault file q head.length ≡ None) (λ file. piece ≡ take head.length (drop q (logical file))) (λ file. (span_fault file q head.length ≡ None) × (piece ≡ take head.length (drop q (logical file)))) old.held (λ file a b. (a, b)) right read)
 
@@ -184,18 +185,18 @@ read_data_is : (old : SourceView) (q : ℕ) (head : PacketHead) (piece : List �
 read_data_is old q head piece fields held one long sound held_is is read =
     told_both (λ file. head ≡ packet_head_at (logical file) q) (λ file. piece ≡ take head.length (drop q (logical file))) (λ file. IsLoaded (logical file) q (Stream head.length (head.flags % 2 == 1)) held) old.held
     (λ file a b.
-      let facts = head_facts file q head a in
-      let sort : sort_at (logical file) q ≡ 1 = sym facts.0 ∙ one in
-      let long' : length (take head.length (drop q (logical file))) ≡ head.length = sym (ap (λ (l : List ℕ). length l) b) ∙ long in
-      let shape : is_misshapen (take head.length (drop q (logical file))) fields ≡ false = subst (λ (l : List ℕ). is_misshapen l fields ≡ false) b sound in
-      let streams = ap (λ (l : List ℕ). streams_at l (6 + 2 * fields) (lengths_at l 6 fields)) b ∙ streams_piece (logical file) q head.length fields shape long' in
-      (sort, facts.1, flagged (logical file) q head.flags a one facts.2, held_is ∙ ap (λ (l : List (List ℕ)). Some l) streams))
+    let facts = head_facts file q head a in
+    let sort : sort_at (logical file) q ≡ 1 = sym facts.0 ∙ one in
+    let long' : length (take head.length (drop q (logical file))) ≡ head.length = sym (ap (λ (l : List ℕ). length l) b) ∙ long in
+    let shape : is_misshapen (take head.length (drop q (logical file))) fields ≡ false = subst (λ (l : List ℕ). is_misshapen l fields ≡ false) b sound in
+    let streams = ap (λ (l : List ℕ). streams_at l (6 + 2 * fields) (lengths_at l 6 fields)) b ∙ streams_piece (logical file) q head.length fields shape long' in
+    (sort, facts.1, flagged (logical file) q head.flags a one facts.2, held_is ∙ ap (λ (l : List (List ℕ)). Some l) streams))
     is read
   where
     flagged : (b : List ℕ) (q flags : ℕ) → head ≡ packet_head_at b q → head.sort ≡ 1 → flags ≡ (packet_head_at b q).flags → (flags % 2 == 1) ≡ restart_at b q
     flagged b q flags a one same =
-      let yes : ((packet_head_at b q).sort == 1) ≡ true = eq-eqb (packet_head_at b q).sort 1 (sym (ap (λ (h : PacketHead). h.sort) a) ∙ one) in
-      sym (restart_at-flags b q ∙ rw (yes, ← same) refl)
+        let yes : ((packet_head_at b q).sort == 1) ≡ true = eq-eqb (packet_head_at b q).sort 1 (sym (ap (λ (h : PacketHead). h.sort) a) ∙ one) in
+        sym (restart_at-flags b q ∙ rw (yes, ← same) refl)
 
 pub loaded_data : (old mid new : SourceView) (kept midkept now : List ℕ) (s : Section) (q : ℕ) (head : PacketHead) (bytes ends : List ℕ) → ReadsHead old kept s q head mid midkept → head.sort ≡ 1 → length bytes ≡ 65536 → ReadsData mid midkept q head.length s.fields (take head.length bytes) (take s.fields ends) new now → LoadsPacket old kept s q (Stream head.length (head.flags % 2 == 1)) (Some (pieces (first_stream s.fields) (take s.fields ends) bytes)) new now
 loaded_data old mid new kept midkept now s q head bytes ends reads one room did =

@@ -1,8 +1,8 @@
 -- The first fault of a packet's first four bytes, from those bytes.
-use Rattle.std.specs.Prelude.{◌≡◌, ℕ, ◌+◌, ◌*◌, ◌%◌, ◌^◌, ◌<◌, ◌≤◌, ◌==◌, ◌||◌, not, nat_lt, Bool, true, false, if◌then◌else◌, List, length, take, drop, Option, Some, None, IfSome}
+use Rattle.std.specs.Prelude.{◌≡◌, ℕ, ◌+◌, ◌*◌, ◌%◌, ◌^◌, ◌<◌, ◌≤◌, ◌==◌, ◌||◌, not, nat_lt, Bool, true, false, if◌then◌else◌, List, take, drop, Option, Some, None, IfSome}
 use Rattle.std.specs.Option.{option_or}
-use Rattle.std.proofs.Common.{refl, sym, subst, ap, ◌∙◌, arith, lit≤}
-use Rattle.std.proofs.lemmas.Bool.{lt-ltb, le-ltb, eq-eqb, ltb-true, ltb-false, eqb-true}
+use Rattle.std.proofs.Common.{refl, subst, ap, ◌∙◌, arith, lit≤}
+use Rattle.std.proofs.lemmas.Bool.{lt-ltb, le-ltb, ltb-false, eqb-true}
 use Rattle.e57_bits.specs.BitLaws.{number-lt}
 use Rattle.e57_bits.specs.Bits.{number}
 use Rattle.e57_base.specs.Fault.{fault}
@@ -12,10 +12,9 @@ use Rattle.e57_base.specs.declared.fault.Fault.{Fault}
 use Rattle.e57_base.specs.declared.fault.ReadFault.{ReadFault}
 use Rattle.e57_base.specs.declared.fault.ReadFault.TheVariants.{Refused, Source}
 use Rattle.e57_base.specs.declared.kind.Kind.{Kind}
-use Rattle.e57_base.specs.declared.kind.Kind.TheVariants.{Page, PacketType, PacketLength}
+use Rattle.e57_base.specs.declared.kind.Kind.TheVariants.{PacketType, PacketLength}
 use Rattle.e57_page.specs.File.{logical, span_fault}
 use Rattle.e57_layout.specs.declared.section.Section.{Section}
-use Rattle.e57_layout.specs.declared.packet.PacketHead.{PacketHead}
 use Rattle.e57_layout.specs.Packets.{sort_at, length_at, packet_head_at}
 use Rattle.e57_packet.specs.Reading.{head_kind}
 use Rattle.e57_sections.specs.Section.{when}
@@ -26,9 +25,10 @@ use Rattle.e57_section.proofs.Moved.{sort-piece, length-piece, packet_head-piece
 -- a wrong page is the first fault
 pub head_page : (old new : SourceView) (s : Section) (q : ℕ) (found : ReadFault) → IsSpanCause old q 4 found new → IsHeadCause old s q found new
 unfolding packet_head_fault
-head_page old new s q (Refused found) cause =
-    (ap (λ (k : Kind). is_packet_kind k) cause.0,
-     told_map (λ file. span_fault file q 4 ≡ Some found) (λ file. packet_head_fault file s q ≡ Some found) old.held (λ file e. rw e refl) cause.1)
+head_page old new s q (Refused found) cause = (
+  ap (λ (k : Kind). is_packet_kind k) cause.0,
+  told_map (λ file. span_fault file q 4 ≡ Some found) (λ file. packet_head_fault file s q ≡ Some found) old.held (λ file e. rw e refl) cause.1,
+)
 head_page old new s q Source cause = cause
 
 -- the fault of four bytes of right pages
@@ -51,10 +51,11 @@ of_kind false true d node q kind e = absurd cc
 
 pub head_kind_found : (old : SourceView) (bytes : List ℕ) (s : Section) (q : ℕ) (kind : Kind) → head_kind bytes ≡ Some kind → IfSome old.held (λ file. span_fault file q 4 ≡ None) → IfSome old.held (λ file. bytes ≡ take 4 (drop q (logical file))) → (is_packet_kind kind ≡ true) × IfSome old.held (λ file. packet_head_fault file s q ≡ Some (fault kind s.node q))
 head_kind_found old bytes s q kind e right read =
-    let both = of_kind (nat_lt 2 (sort_at bytes 0)) (length_at bytes 0 % 4 == 0) (nat_lt s.end (q + length_at bytes 0)) s.node q kind e in
-    (both.1,
-     told_both (λ file. span_fault file q 4 ≡ None) (λ file. bytes ≡ take 4 (drop q (logical file))) (λ file. packet_head_fault file s q ≡ Some (fault kind s.node q)) old.held
-     (λ file sound is. head_rest_is file bytes s q sound is ∙ both.0) right read)
+    let both = of_kind (nat_lt 2 (sort_at bytes 0)) (length_at bytes 0 % 4 == 0) (nat_lt s.end (q + length_at bytes 0)) s.node q kind e in (
+      both.1,
+      told_both (λ file. span_fault file q 4 ≡ None) (λ file. bytes ≡ take 4 (drop q (logical file))) (λ file. packet_head_fault file s q ≡ Some (fault kind s.node q)) old.held
+          (λ file sound is. head_rest_is file bytes s q sound is ∙ both.0) right read,
+    )
 
 -- four bytes without a fault of their own
 pub record IsSoundHead (bytes : List ℕ) : Type 0 where

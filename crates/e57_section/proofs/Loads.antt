@@ -1,12 +1,12 @@
 -- The pages of a packet, by its two reads.
-use Rattle.std.specs.Prelude.{◌≡◌, ℕ, ◌+◌, ◌*◌, ◌/◌, ◌<◌, ◌≤◌, ◌⊎◌, true, List, [], ◌++◌, length, IfSome}
-use Rattle.std.proofs.Common.{refl, sym, subst, ap, ◌∙◌, arith, inl, inr, ⊎_elim}
+use Rattle.std.specs.Prelude.{◌≡◌, ℕ, ◌+◌, ◌/◌, ◌<◌, ◌≤◌, true, List, []}
+use Rattle.std.proofs.Common.{sym, subst, arith, inl, inr, ⊎_elim}
 use Rattle.std.proofs.lemmas.Bool.Decides.{nat_tests}
 use Rattle.std.proofs.lemmas.Bool.{cases_lt}
 use Rattle.std.proofs.lemmas.List.{append-nil}
 use Rattle.e57_base.specs.Source.{SourceView}
 use Rattle.e57_page.specs.Place.{span_end}
-use Rattle.e57_page.specs.Kept.{is_kept, KeepsTo}
+use Rattle.e57_page.specs.Kept.{is_kept}
 use Rattle.e57_page.specs.Pages.{AsksFor}
 use Rattle.e57_page.specs.PagesLaws.{asks_for_on, asks_unkept_from}
 use Rattle.e57_sections.specs.Met.{InSpan}
@@ -43,19 +43,19 @@ keeps_all kept mid now q n some first next =
     let limits = head_begin q in
     record {
       last = λ k below near known.
-        ⊎_elim
-        (λ (low : k < q / 1020). next.last k below near (inr (⊎_elim (λ (here : q / 1020 ≤ k). absurd (omega arith)) (λ (was : is_kept kept k ≡ true). first.last k (omega (arith, low, limits.0)) (omega (arith, near, end)) (inr was)) known)))
-        (λ (high : q / 1020 ≤ k). next.last k below near (inl high))
-        (cases_lt k (q / 1020));
+          ⊎_elim
+          (λ (low : k < q / 1020). next.last k below near (inr (⊎_elim (λ (here : q / 1020 ≤ k). absurd (omega arith)) (λ (was : is_kept kept k ≡ true). first.last k (omega (arith, low, limits.0)) (omega (arith, near, end)) (inr was)) known)))
+          (λ (high : q / 1020 ≤ k). next.last k below near (inl high))
+          (cases_lt k (q / 1020));
       later = λ k from below. absurd (omega arith);
       no_other = λ k is.
-        ⊎_elim
-        (λ (was : is_kept mid k ≡ true). ⊎_elim
+          ⊎_elim
+          (λ (was : is_kept mid k ≡ true). ⊎_elim
           (λ (before : is_kept kept k ≡ true). inl before)
           (λ (here : (q / 1020 ≤ k) × (k < span_end q 4)). inr (here.0, omega (arith, here.1, end)))
           (first.no_other k was))
-        (λ (here : (q / 1020 ≤ k) × (k < span_end q n)). inr here)
-        (next.no_other k is);
+          (λ (here : (q / 1020 ≤ k) × (k < span_end q n)). inr here)
+          (next.no_other k is);
     }
 
 pub only_more : (kept now : List ℕ) (q n : ℕ) → 4 ≤ n → KeepsOnly kept q 4 now → KeepsOnly kept q n now
@@ -71,8 +71,8 @@ only_all kept mid now q n some first next k is =
     let end = head_end q n some in
     ⊎_elim
     (λ (was : is_kept mid k ≡ true). ⊎_elim
-      (λ (before : is_kept kept k ≡ true). inl before)
-      (λ (here : (q / 1020 ≤ k) × (k < span_end q 4)). inr (here.0, omega (arith, here.1, end)))
-      (first.no_other k was))
+    (λ (before : is_kept kept k ≡ true). inl before)
+    (λ (here : (q / 1020 ≤ k) × (k < span_end q 4)). inr (here.0, omega (arith, here.1, end)))
+    (first.no_other k was))
     (λ (here : InSpan q n k). inr here)
     (next k is)

@@ -1,5 +1,5 @@
 -- The first fault of a section's header, from the steps of its opening.
-use Rattle.std.specs.Prelude.{◌≡◌, ℕ, ◌+◌, ◌*◌, ◌/◌, ◌<◌, ◌≤◌, ◌==◌, ◌||◌, not, nat_lt, Bool, true, false, if◌then◌else◌, List, [], length, take, drop, Option, Some, None, IfSome, MatchOption}
+use Rattle.std.specs.Prelude.{◌≡◌, ℕ, ◌+◌, ◌*◌, ◌/◌, ◌≤◌, ◌==◌, ◌||◌, not, nat_lt, Bool, true, false, if◌then◌else◌, List, [], length, take, drop, Option, Some, None, IfSome, MatchOption}
 use Rattle.std.specs.Option.{option_or}
 use Rattle.std.proofs.Common.{refl, sym, subst, ap, ◌∙◌, arith}
 use Rattle.std.proofs.lemmas.Bool.{ltb-false, or_parts}
@@ -10,14 +10,14 @@ use Rattle.e57_base.specs.declared.fault.Fault.{Fault}
 use Rattle.e57_base.specs.declared.fault.ReadFault.{ReadFault}
 use Rattle.e57_base.specs.declared.fault.ReadFault.TheVariants.{Refused, Source}
 use Rattle.e57_base.specs.declared.kind.Kind.{Kind}
-use Rattle.e57_base.specs.declared.kind.Kind.TheVariants.{Page, SectionPlace, SectionId, DataPlace}
+use Rattle.e57_base.specs.declared.kind.Kind.TheVariants.{SectionPlace, SectionId, DataPlace}
 use Rattle.e57_page.specs.Place.{place}
 use Rattle.e57_page.specs.File.{logical, logical_size, span_fault}
 use Rattle.e57_page.specs.Pages.{AsksFor}
 use Rattle.e57_layout.specs.Headers.{section_head_at}
 use Rattle.e57_layout.specs.declared.section.Section.{Section}
 use Rattle.e57_layout.specs.declared.section.SectionHeader.{SectionHeader}
-use Rattle.e57_sections.specs.Section.{when, or_zero, data_place_fault, section_header_fault, section_fault_from, section_fault, section_at}
+use Rattle.e57_sections.specs.Section.{when, data_place_fault, section_header_fault, section_fault_from, section_fault, section_at}
 use Rattle.e57_sections.specs.Laws.Spans.{or-none}
 use Rattle.e57_section.specs.Asking.{AsksSpan, KeepsOnly}
 use Rattle.e57_section.specs.Opening.{header_within, header_place, AsksHeader, KeepsHeader, is_section_kind, IsSectionCause}
@@ -67,10 +67,11 @@ outside_cause old size node offset told e =
 
 pub page_cause : (old new : SourceView) (size node offset start : ℕ) (found : ReadFault) → IfSome old.held (λ file. logical_size file ≡ size) → header_place size offset ≡ Some start → IsSpanCause old start 32 found new → IsSectionCause old node offset found new
 unfolding section_fault
-page_cause old new size node offset start (Refused found) told e cause =
-    (ap (λ (k : Kind). is_section_kind k) cause.0,
-     told_both (λ file. logical_size file ≡ size) (λ file. span_fault file start 32 ≡ Some found) (λ file. section_fault file node offset ≡ Some found) old.held
-     (λ file same wrong. inside file size node offset start (place offset) same e ∙ rw wrong refl) told cause.1)
+page_cause old new size node offset start (Refused found) told e cause = (
+  ap (λ (k : Kind). is_section_kind k) cause.0,
+  told_both (λ file. logical_size file ≡ size) (λ file. span_fault file start 32 ≡ Some found) (λ file. section_fault file node offset ≡ Some found) old.held
+      (λ file same wrong. inside file size node offset start (place offset) same e ∙ rw wrong refl) told cause.1,
+)
 page_cause old new size node offset start Source told e cause = cause
 
 -- the header that was read has this outcome
@@ -79,8 +80,8 @@ unfolding section_fault
 header_outcome old size node offset start bytes header outcome told e right read is judged =
     told_both (λ file. logical_size file ≡ size) (λ file. (span_fault file start 32 ≡ None) × (bytes ≡ take 32 (drop start (logical file)))) (λ file. section_fault file node offset ≡ outcome) old.held
     (λ file same both.
-      let header_is : header ≡ section_head_at (logical file) start = is ∙ ap (λ (b : List ℕ). section_head_at b 0) both.1 ∙ section_head-piece (logical file) start in
-      inside file size node offset start (place offset) same e ∙ rw (both.0, ← header_is) judged)
+    let header_is : header ≡ section_head_at (logical file) start = is ∙ ap (λ (b : List ℕ). section_head_at b 0) both.1 ∙ section_head-piece (logical file) start in
+    inside file size node offset start (place offset) same e ∙ rw (both.0, ← header_is) judged)
     told
     (told_both (λ file. span_fault file start 32 ≡ None) (λ file. bytes ≡ take 32 (drop start (logical file))) (λ file. (span_fault file start 32 ≡ None) × (bytes ≡ take 32 (drop start (logical file)))) old.held (λ file a b. (a, b)) right read)
 
@@ -89,8 +90,8 @@ unfolding section_at
 header_section old node offset count fields start data_place bytes header at_offset at_data read is =
     told_map (λ file. bytes ≡ take 32 (drop start (logical file))) (λ file. ◌≡◌ {A = Section} (record { node = node; fields = fields; start = start; end = start + header.length; data_place = data_place; index = header.index; count = count }) (section_at file node offset count fields)) old.held
     (λ file piece.
-      let header_is : header ≡ section_head_at (logical file) start = is ∙ ap (λ (b : List ℕ). section_head_at b 0) piece ∙ section_head-piece (logical file) start in
-      rw (at_offset, ← header_is, at_data) refl) read
+    let header_is : header ≡ section_head_at (logical file) start = is ∙ ap (λ (b : List ℕ). section_head_at b 0) piece ∙ section_head-piece (logical file) start in
+    rw (at_offset, ← header_is, at_data) refl) read
 
 -- ---- the kinds, and where the section lies
 

@@ -1,20 +1,15 @@
 -- The first fault of a packet, and its streams, from the steps of its reading.
-use Rattle.std.specs.Prelude.{◌≡◌, ℕ, zero, suc, ◌+◌, ◌-◌, ◌*◌, ◌%◌, ◌<◌, ◌≤◌, ◌==◌, ◌||◌, not, nat_lt, Bool, true, false, if◌then◌else◌, List, [], ◌∷◌, length, take, drop, sum, Option, Some, None, IfSome, is_none, ◌&&◌}
-use Rattle.std.specs.Option.{option_or}
+use Rattle.std.specs.Prelude.{◌≡◌, ℕ, zero, suc, ◌+◌, ◌-◌, ◌*◌, ◌<◌, ◌≤◌, ◌==◌, ◌||◌, not, nat_lt, Bool, true, false, if◌then◌else◌, List, [], ◌∷◌, length, take, drop, sum, Option, Some, None, is_none, ◌&&◌}
 use Rattle.std.proofs.Common.{refl, sym, subst, ap, ◌∙◌, arith, ⊎_elim}
-use Rattle.std.proofs.Math.Bool.{or-true}
-use Rattle.std.proofs.lemmas.Bool.{lt-ltb, le-ltb, eq-eqb, ne_eqb, eqb-true, ltb-false, or_parts, not-false, cases_lt, cases_Bool}
+use Rattle.std.proofs.lemmas.Bool.{lt-ltb, le-ltb, eq-eqb, ne_eqb, eqb-true, ltb-false, or_parts, not-false, cases_lt}
 use Rattle.std.proofs.lemmas.List.{take-take, drop-take, drop-drop, length-take}
 use Rattle.std.proofs.lemmas.List.Sums.{sum_by-cons}
-use Rattle.e57_base.specs.Fault.{fault}
 use Rattle.e57_base.specs.declared.fault.Fault.{Fault}
-use Rattle.e57_base.specs.declared.kind.Kind.TheVariants.{DataShape}
-use Rattle.e57_page.specs.File.{logical, span_fault}
+use Rattle.e57_page.specs.File.{logical}
 use Rattle.e57_layout.specs.declared.section.Section.{Section}
 use Rattle.e57_layout.specs.Packets.{sort_at, length_at, stream_count_at, lengths_at, streams_at, streams_of, total, data_size}
 use Rattle.e57_layout.specs.Laws.Layouts.{total-cons, data_size_is}
 use Rattle.e57_packet.specs.Reading.{is_misshapen, stream_ends}
-use Rattle.e57_sections.specs.Section.{when}
 use Rattle.e57_sections.specs.Walk.{packet_head_fault, is_misshapen_data, packet_fault}
 use Rattle.e57_sections.specs.Met.{needed_at}
 use Rattle.e57_section.specs.Steps.{data_fault}
@@ -38,27 +33,27 @@ shape_is b q n fields e long =
     ⊎_elim
     (λ (small : n < 6). let short = lt-ltb n 6 small in rw (long, ← e, short) refl)
     (λ (six : 6 ≤ n).
-      let enough = le-ltb n 6 six in
-      let count = count-piece b q n six in
-      counted (stream_count_at b q == fields) refl enough count six)
+    let enough = le-ltb n 6 six in
+    let count = count-piece b q n six in
+    counted (stream_count_at b q == fields) refl enough count six)
     (cases_lt n 6)
   where
     counted : (same : Bool) → (stream_count_at b q == fields) ≡ same → nat_lt n 6 ≡ false → stream_count_at (take n (drop q b)) 0 ≡ stream_count_at b q → 6 ≤ n
-      → (nat_lt (length (take n (drop q b))) 6 || (not (stream_count_at (take n (drop q b)) 0 == fields) || nat_lt (length (take n (drop q b))) (6 + 2 * fields + sum (lengths_at (take n (drop q b)) 6 fields))))
-      ≡ (nat_lt (length_at b q) 6 || (not (stream_count_at b q == fields) || nat_lt (length_at b q) (6 + 2 * stream_count_at b q + sum (lengths_at b (q + 6) (stream_count_at b q)))))
+        → (nat_lt (length (take n (drop q b))) 6 || (not (stream_count_at (take n (drop q b)) 0 == fields) || nat_lt (length (take n (drop q b))) (6 + 2 * fields + sum (lengths_at (take n (drop q b)) 6 fields))))
+        ≡ (nat_lt (length_at b q) 6 || (not (stream_count_at b q == fields) || nat_lt (length_at b q) (6 + 2 * stream_count_at b q + sum (lengths_at b (q + 6) (stream_count_at b q)))))
     counted false is enough count six = rw (long, ← e, enough, count, is) refl
     counted true is enough count six =
-      let all : stream_count_at b q ≡ fields = eqb-true (stream_count_at b q) fields is in
-      ⊎_elim
-      (λ (cut : n < 6 + 2 * fields).
+        let all : stream_count_at b q ≡ fields = eqb-true (stream_count_at b q) fields is in
+        ⊎_elim
+        (λ (cut : n < 6 + 2 * fields).
         let one = lt-ltb n (6 + 2 * fields + sum (lengths_at (take n (drop q b)) 6 fields)) (omega (arith, cut)) in
         let two = lt-ltb n (6 + 2 * fields + sum (lengths_at b (q + 6) fields)) (omega (arith, cut)) in
         let yes = eq-eqb fields fields refl in
         rw (long, ← e, enough, count, all, yes, one, two) refl)
-      (λ (there : 6 + 2 * fields ≤ n).
+        (λ (there : 6 + 2 * fields ≤ n).
         let same = lengths-piece b q n 6 (q + 6) fields refl there in
         rw (long, ← e, enough, count, all, same) refl)
-      (cases_lt n (6 + 2 * fields))
+        (cases_lt n (6 + 2 * fields))
 
 -- of a data packet
 pub fault_data : (file : List ℕ) (s : Section) (q n : ℕ) (outcome : Option Fault) → packet_head_fault file s q ≡ None → sort_at (logical file) q ≡ 1 → n ≡ length_at (logical file) q → length (take n (drop q (logical file))) ≡ n → data_fault file s.node q n s.fields ≡ outcome → packet_fault file s q ≡ outcome

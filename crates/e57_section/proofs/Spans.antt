@@ -1,21 +1,17 @@
 -- What a read of a range that was cut says of its span.
-use Rattle.std.specs.Prelude.{◌≡◌, ℕ, ◌+◌, ◌/◌, ◌<◌, ◌≤◌, ◌⊎◌, true, List, length, Option, Some, None, IfSome}
-use Rattle.std.proofs.Common.{refl, sym, subst, ap, ◌∙◌, inl, inr, ⊎_elim, arith}
-use Rattle.e57_base.specs.Count.{Rose}
+use Rattle.std.specs.Prelude.{◌≡◌, ℕ, ◌/◌, ◌<◌, ◌≤◌, true, List, length}
+use Rattle.std.proofs.Common.{subst, ap, inl, inr, ⊎_elim, arith}
 use Rattle.e57_base.specs.Source.{SourceView}
 use Rattle.e57_base.specs.declared.fault.Fault.{Fault}
 use Rattle.e57_base.specs.declared.fault.ReadFault.{ReadFault}
 use Rattle.e57_base.specs.declared.fault.ReadFault.TheVariants.{Refused, Source}
-use Rattle.e57_base.specs.declared.kind.Kind.{Kind}
 use Rattle.e57_base.specs.declared.kind.Kind.TheVariants.{Page}
 use Rattle.e57_page.specs.declared.pages.Cut.{Cut}
 use Rattle.e57_page.specs.Place.{span_end}
-use Rattle.e57_page.specs.File.{span_fault}
 use Rattle.e57_page.specs.Kept.{is_kept, KeepsTo}
 use Rattle.e57_page.specs.Pages.{IsCutAt, IsStopped}
-use Rattle.e57_page.specs.PagesLaws.{cut_asks, cut_below, cut_fault, cut_source}
-use Rattle.e57_sections.specs.Met.{InSpan}
-use Rattle.e57_section.specs.Asking.{AsksSpan, KeepsSpan, KeepsOnly}
+use Rattle.e57_page.specs.PagesLaws.{cut_below, cut_fault, cut_source}
+use Rattle.e57_section.specs.Asking.{KeepsSpan, KeepsOnly}
 use Rattle.e57_section.specs.Steps.{IsSpanCause}
 
 -- what is kept after a span is of the span, or was kept

@@ -1,7 +1,7 @@
 -- The streams that a buffer holds.
-use Rattle.std.specs.Prelude.{◌≡◌, ℕ, zero, suc, ◌+◌, ◌-◌, ◌*◌, ◌<◌, ◌≤◌, List, [], ◌∷◌, length, take, drop, get_or, slice_index, Option, Some, None, IfSome, IsSomeAnd, sum}
+use Rattle.std.specs.Prelude.{◌≡◌, ℕ, zero, suc, ◌-◌, ◌<◌, ◌≤◌, List, [], ◌∷◌, length, take, drop, get_or, Option, Some, None, IfSome, IsSomeAnd}
 use Rattle.std.specs.Option.{unwrap_or}
-use Rattle.std.proofs.Common.{refl, sym, subst, ap, ◌∙◌, arith, get_or-take}
+use Rattle.std.proofs.Common.{refl, sym, ap, ◌∙◌, arith, get_or-take}
 use Rattle.std.proofs.lemmas.List.{length-take}
 use Rattle.e57_section.specs.Streams.{first_stream, pieces, EndsWithin, stream_begin, held_streams, IsBuffer}
 

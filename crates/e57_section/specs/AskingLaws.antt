@@ -1,7 +1,7 @@
 -- Laws of the pages that things of a section ask for, and of what a packet needs.
-use Rattle.std.specs.Prelude.{◌≡◌, ℕ, ◌+◌, ◌/◌, ◌≤◌, ◌<◌, ◌==◌, ◌&&◌, true, List, [], ◌∷◌, ◌++◌, Option, Some, None}
+use Rattle.std.specs.Prelude.{◌≡◌, ℕ, ◌+◌, ◌/◌, ◌≤◌, ◌<◌, true, List, [], ◌∷◌, ◌++◌, Option, Some, None}
 use Rattle.std.specs.List.{AllByRecursion}
-use Rattle.std.proofs.Common.{refl, sym, ap, ◌∙◌, arith}
+use Rattle.std.proofs.Common.{refl, ◌∙◌, arith}
 use Rattle.std.proofs.lemmas.Bool.{eq-eqb}
 use Rattle.std.proofs.lemmas.Bool.Decides.{nat_tests}
 use Rattle.e57_base.specs.Source.{SourceView}
@@ -12,8 +12,8 @@ use Rattle.e57_page.specs.Place.{span_end, RisesWithin}
 use Rattle.e57_page.specs.PlaceLaws.{rises_on}
 use Rattle.e57_page.specs.Pages.{AsksWithin}
 use Rattle.e57_layout.specs.declared.section.Section.{Section}
-use Rattle.e57_layout.specs.Packets.{sort_at, restart_at, length_at}
-use Rattle.e57_sections.specs.Walk.{Packet, packet_at, packet_head_fault, packet_fault}
+use Rattle.e57_layout.specs.Packets.{sort_at, restart_at}
+use Rattle.e57_sections.specs.Walk.{packet_at, packet_head_fault, packet_fault}
 use Rattle.e57_sections.specs.Met.{InSpan, needed_at}
 use Rattle.e57_sections.specs.Laws.Spans.{or-none}
 use Rattle.e57_section.specs.declared.load.Loaded.{Loaded}

@@ -1,5 +1,5 @@
 -- What `load_packet` answers, and what it does to the source and the buffer.
-use Rattle.std.specs.Prelude.{◌≡◌, ℕ, ◌+◌, ◌%◌, ◌≤◌, Bool, true, false, List, [], length, Option, Some, None, IfSome, IsSomeAnd}
+use Rattle.std.specs.Prelude.{◌≡◌, ℕ, ◌+◌, ◌%◌, ◌≤◌, true, false, List, [], length, Option, Some, None, IfSome, IsSomeAnd}
 use Rattle.e57_base.specs.Count.{Rose}
 use Rattle.e57_base.specs.Source.{SourceView}
 use Rattle.e57_base.specs.declared.fault.ReadFault.{ReadFault}

@@ -1,5 +1,5 @@
 -- The steps of a packet's reading: its first four bytes, and then the bytes of a data packet.
-use Rattle.std.specs.Prelude.{◌≡◌, ℕ, ◌+◌, ◌%◌, ◌≤◌, Bool, true, false, List, length, take, drop, Option, Some, None, IfSome}
+use Rattle.std.specs.Prelude.{◌≡◌, ℕ, ◌+◌, ◌%◌, ◌≤◌, Bool, true, false, List, take, drop, Option, Some, None, IfSome}
 use Rattle.std.specs.Option.{option_or}
 use Rattle.e57_base.specs.Count.{Rose}
 use Rattle.e57_base.specs.Fault.{fault}

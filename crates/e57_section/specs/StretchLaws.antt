@@ -1,19 +1,19 @@
 -- The walk packet by packet from a place on is the first chunk from there, with its end.
-use Rattle.std.specs.Prelude.{◌≡◌, ℕ, zero, suc, ◌+◌, ◌-◌, ◌<◌, ◌≤◌, ◌==◌, ◌||◌, ◌&&◌, not, nat_lt, Bool, true, false, if◌then◌else◌, List, [], ◌∷◌, ◌++◌, length, Option, Some, None, Result, Ok, Err}
+use Rattle.std.specs.Prelude.{◌≡◌, ℕ, zero, suc, ◌+◌, ◌-◌, ◌<◌, ◌≤◌, ◌||◌, ◌&&◌, not, Bool, true, false, List, [], ◌∷◌, ◌++◌, length, Option, Some, None, Result, Ok}
 use Rattle.std.specs.List.{onto_first}
 use Rattle.std.proofs.Common.{refl, sym, subst, ap, ◌∙◌, arith, ⊎_elim}
-use Rattle.std.proofs.lemmas.Bool.{lt-ltb, le-ltb, cases_lt, cases_Bool, cond-true, cond-false}
+use Rattle.std.proofs.lemmas.Bool.{cases_lt, cases_Bool, cond-true, cond-false}
 use Rattle.e57_base.specs.declared.fault.Fault.{Fault}
 use Rattle.e57_page.specs.File.{logical}
 use Rattle.e57_layout.specs.Packets.{length_at}
 use Rattle.e57_layout.specs.declared.section.Section.{Section}
 use Rattle.e57_sections.specs.Walk.{Packet, packet_at, packet_fault, walk, walk_from, Walk, onward}
-use Rattle.e57_sections.specs.Chunks.{data_packets, cut, by_chunk, start_of}
+use Rattle.e57_sections.specs.Chunks.{data_packets, cut, by_chunk}
 use Rattle.e57_sections.specs.Met.{place_after, IsWalked}
 use Rattle.e57_sections.specs.PathItem.{Stretch, stretch_of, stretch, unless}
 use Rattle.e57_sections.specs.Laws.Chunks.{cut-restart}
 use Rattle.e57_sections.specs.Laws.Walks.{length_at-some, walk-end, walk-step}
-use Rattle.e57_section.specs.Walking.{judged_at, Finish, Ends, Restarts, Faulty, Walked, goes_on, still_fresh, ended, before, stepped, walk_on, walk_rest, Leads, finish_fault, finish_next}
+use Rattle.e57_section.specs.Walking.{judged_at, Restarts, Walked, goes_on, still_fresh, ended, before, stepped, walk_on, walk_rest, Leads, finish_fault, finish_next}
 use Rattle.e57_section.specs.WalkingLaws.{walk_on-end, walk_on-step}
 
 -- the data packets of a walk, and what ended it
@@ -111,38 +111,38 @@ later file s (suc fuel) q =
     ⊎_elim
     (λ (past : s.end < q + 4). rw (walk-end file s (suc fuel) q past, walk_on-end (judged_at file s) s.end (suc fuel) false q past, data-none, cut-none) refl)
     (λ (there : q + 4 ≤ s.end).
-      rw (walk-step file s fuel q there, walk_on-step (judged_at file s) s.end fuel false q there)
-      (by_fault (packet_fault file s q) (packet_at (logical file) q) (walk file s fuel (q + length_at (logical file) q)) (packet-place (logical file) q) (later file s fuel (q + length_at (logical file) q)) (packet-length (logical file) q)))
+    rw (walk-step file s fuel q there, walk_on-step (judged_at file s) s.end fuel false q there)
+    (by_fault (packet_fault file s q) (packet_at (logical file) q) (walk file s fuel (q + length_at (logical file) q)) (packet-place (logical file) q) (later file s fuel (q + length_at (logical file) q)) (packet-length (logical file) q)))
     (cases_lt s.end (q + 4))
   where
     by_fault : (found : Option Fault) (x : Packet) (rest : Walk) → x.place ≡ q → stretch_of rest.fault (cut (data_packets rest.packets)) ≡ as_stretch (walk_on (judged_at file s) s.end fuel false (q + length_at (logical file) q)) → x.length ≡ length_at (logical file) q
-      → stretch_of (onward found x rest).fault (cut (data_packets (onward found x rest).packets)) ≡ as_stretch (stepped false q (unless found (Ok x)) (λ p. walk_on (judged_at file s) s.end fuel (still_fresh false p) (q + p.length)))
+        → stretch_of (onward found x rest).fault (cut (data_packets (onward found x rest).packets)) ≡ as_stretch (stepped false q (unless found (Ok x)) (λ p. walk_on (judged_at file s) s.end fuel (still_fresh false p) (q + p.length)))
     by_fault (Some f) x rest place hyp long = rw (data-none, cut-none) refl
     by_fault None x rest place hyp long =
-      ⊎_elim
-      (λ (is : x.is_data ≡ true).
+        ⊎_elim
+        (λ (is : x.is_data ≡ true).
         ⊎_elim
         (λ (restart : x.restart ≡ true).
-          ap (λ (ds : List Packet). stretch_of rest.fault (cut ds)) (data-yes x rest.packets is)
-          ∙ ap (λ (pieces : List (List Packet)). stretch_of rest.fault pieces) (cut-restart x (data_packets rest.packets) restart)
-          ∙ stretch-cut rest.fault x (cut (data_packets rest.packets))
-          ∙ ap (λ (n : ℕ). record { packets = []; fault = None; next = Some n }) place
-          ∙ ap (λ (ds : List Packet). record { packets = ds; fault = None; next = Some q }) (sym data-none)
-          ∙ sym (ap as_stretch (step-off q x (walk_on (judged_at file s) s.end fuel) (stops-restart x is restart))))
+        ap (λ (ds : List Packet). stretch_of rest.fault (cut ds)) (data-yes x rest.packets is)
+        ∙ ap (λ (pieces : List (List Packet)). stretch_of rest.fault pieces) (cut-restart x (data_packets rest.packets) restart)
+        ∙ stretch-cut rest.fault x (cut (data_packets rest.packets))
+        ∙ ap (λ (n : ℕ). record { packets = []; fault = None; next = Some n }) place
+        ∙ ap (λ (ds : List Packet). record { packets = ds; fault = None; next = Some q }) (sym data-none)
+        ∙ sym (ap as_stretch (step-off q x (walk_on (judged_at file s) s.end fuel) (stops-restart x is restart))))
         (λ (on : x.restart ≡ false).
-          ap (λ (ds : List Packet). stretch_of rest.fault (cut ds)) (data-yes x rest.packets is)
-          ∙ ap (λ (pieces : List (List Packet)). stretch_of rest.fault pieces) (cut-on x (data_packets rest.packets) on)
-          ∙ stretch-onto rest.fault x (cut (data_packets rest.packets))
-          ∙ ap (λ (w : Stretch). with_first x w) hyp
-          ∙ sym (stretch-before x (walk_on (judged_at file s) s.end fuel false (q + length_at (logical file) q)) is)
-          ∙ sym (ap as_stretch (step-on false false q (length_at (logical file) q) x (walk_on (judged_at file s) s.end fuel) (goes-same x on) refl long)))
+        ap (λ (ds : List Packet). stretch_of rest.fault (cut ds)) (data-yes x rest.packets is)
+        ∙ ap (λ (pieces : List (List Packet)). stretch_of rest.fault pieces) (cut-on x (data_packets rest.packets) on)
+        ∙ stretch-onto rest.fault x (cut (data_packets rest.packets))
+        ∙ ap (λ (w : Stretch). with_first x w) hyp
+        ∙ sym (stretch-before x (walk_on (judged_at file s) s.end fuel false (q + length_at (logical file) q)) is)
+        ∙ sym (ap as_stretch (step-on false false q (length_at (logical file) q) x (walk_on (judged_at file s) s.end fuel) (goes-same x on) refl long)))
         (cases_Bool x.restart))
-      (λ (other : x.is_data ≡ false).
+        (λ (other : x.is_data ≡ false).
         ap (λ (ds : List Packet). stretch_of rest.fault (cut ds)) (data-other x rest.packets other)
         ∙ hyp
         ∙ sym (stretch-other x (walk_on (judged_at file s) s.end fuel false (q + length_at (logical file) q)) other)
         ∙ sym (ap as_stretch (step-on false false q (length_at (logical file) q) x (walk_on (judged_at file s) s.end fuel) (goes-other x other) refl long)))
-      (cases_Bool x.is_data)
+        (cases_Bool x.is_data)
 
 first-none : (file : List ℕ) (s : Section) (q : ℕ) → stretch_of (walk file s zero q).fault (by_chunk (data_packets (walk file s zero q).packets)) ≡ as_stretch (walk_on (judged_at file s) s.end zero true q)
 unfolding walk walk_on
@@ -154,28 +154,28 @@ first file s (suc fuel) q =
     ⊎_elim
     (λ (past : s.end < q + 4). rw (walk-end file s (suc fuel) q past, walk_on-end (judged_at file s) s.end (suc fuel) true q past, data-none, chunk-none) refl)
     (λ (there : q + 4 ≤ s.end).
-      rw (walk-step file s fuel q there, walk_on-step (judged_at file s) s.end fuel true q there)
-      (by_fault (packet_fault file s q) (packet_at (logical file) q) (walk file s fuel (q + length_at (logical file) q)) (later file s fuel (q + length_at (logical file) q)) (first file s fuel (q + length_at (logical file) q)) (packet-length (logical file) q)))
+    rw (walk-step file s fuel q there, walk_on-step (judged_at file s) s.end fuel true q there)
+    (by_fault (packet_fault file s q) (packet_at (logical file) q) (walk file s fuel (q + length_at (logical file) q)) (later file s fuel (q + length_at (logical file) q)) (first file s fuel (q + length_at (logical file) q)) (packet-length (logical file) q)))
     (cases_lt s.end (q + 4))
   where
     by_fault : (found : Option Fault) (x : Packet) (rest : Walk) → stretch_of rest.fault (cut (data_packets rest.packets)) ≡ as_stretch (walk_on (judged_at file s) s.end fuel false (q + length_at (logical file) q)) → stretch_of rest.fault (by_chunk (data_packets rest.packets)) ≡ as_stretch (walk_on (judged_at file s) s.end fuel true (q + length_at (logical file) q)) → x.length ≡ length_at (logical file) q
-      → stretch_of (onward found x rest).fault (by_chunk (data_packets (onward found x rest).packets)) ≡ as_stretch (stepped true q (unless found (Ok x)) (λ p. walk_on (judged_at file s) s.end fuel (still_fresh true p) (q + p.length)))
+        → stretch_of (onward found x rest).fault (by_chunk (data_packets (onward found x rest).packets)) ≡ as_stretch (stepped true q (unless found (Ok x)) (λ p. walk_on (judged_at file s) s.end fuel (still_fresh true p) (q + p.length)))
     by_fault (Some f) x rest hyp fresh long = rw (data-none, chunk-none) refl
     by_fault None x rest hyp fresh long =
-      ⊎_elim
-      (λ (is : x.is_data ≡ true).
+        ⊎_elim
+        (λ (is : x.is_data ≡ true).
         ap (λ (ds : List Packet). stretch_of rest.fault (by_chunk ds)) (data-yes x rest.packets is)
         ∙ ap (λ (pieces : List (List Packet)). stretch_of rest.fault pieces) (chunk-first x (data_packets rest.packets))
         ∙ stretch-onto rest.fault x (cut (data_packets rest.packets))
         ∙ ap (λ (w : Stretch). with_first x w) hyp
         ∙ sym (stretch-before x (walk_on (judged_at file s) s.end fuel false (q + length_at (logical file) q)) is)
         ∙ sym (ap as_stretch (step-on true false q (length_at (logical file) q) x (walk_on (judged_at file s) s.end fuel) refl (ap (λ (d : Bool). not d) is) long)))
-      (λ (other : x.is_data ≡ false).
+        (λ (other : x.is_data ≡ false).
         ap (λ (ds : List Packet). stretch_of rest.fault (by_chunk ds)) (data-other x rest.packets other)
         ∙ fresh
         ∙ sym (stretch-other x (walk_on (judged_at file s) s.end fuel true (q + length_at (logical file) q)) other)
         ∙ sym (ap as_stretch (step-on true true q (length_at (logical file) q) x (walk_on (judged_at file s) s.end fuel) refl (ap (λ (d : Bool). not d) other) long)))
-      (cases_Bool x.is_data)
+        (cases_Bool x.is_data)
 
 -- The walk from a place with its finish is the first chunk from there, with its end.
 pub stretch-walk : (file : List ℕ) (s : Section) (q : ℕ) → stretch file s q ≡ as_stretch (walk_rest (judged_at file s) s.end true q)
@@ -212,11 +212,11 @@ first-one judge limit fresh' at to [] leads = rw (data-none, chunk-none) refl
 first-one judge limit fresh' at to (p ∷ ps) leads =
     ⊎_elim
     (λ (is : p.is_data ≡ true).
-      let rest = later-one judge limit fresh' (at + p.length) to ps (subst (λ (f : Bool). Leads judge limit f (at + p.length) ps fresh' to) (ap (λ (d : Bool). true && not d) is) leads.3) in
-      rw (data-yes p ps is, chunk-first p (data_packets ps)) (onto-one p (cut (data_packets ps)) rest))
+    let rest = later-one judge limit fresh' (at + p.length) to ps (subst (λ (f : Bool). Leads judge limit f (at + p.length) ps fresh' to) (ap (λ (d : Bool). true && not d) is) leads.3) in
+    rw (data-yes p ps is, chunk-first p (data_packets ps)) (onto-one p (cut (data_packets ps)) rest))
     (λ (other : p.is_data ≡ false).
-      let rest = first-one judge limit fresh' (at + p.length) to ps (subst (λ (f : Bool). Leads judge limit f (at + p.length) ps fresh' to) (ap (λ (d : Bool). true && not d) other) leads.3) in
-      rw (data-other p ps other) rest)
+    let rest = first-one judge limit fresh' (at + p.length) to ps (subst (λ (f : Bool). Leads judge limit f (at + p.length) ps fresh' to) (ap (λ (d : Bool). true && not d) other) leads.3) in
+    rw (data-other p ps other) rest)
     (cases_Bool p.is_data)
 
 judged-none : (found : Option Fault) (x p : Packet) → unless found (Ok x) ≡ Ok p → (found ≡ None) × (x ≡ p)
@@ -235,12 +235,13 @@ leads-front file s (suc fuel) at to fresh fresh' (p ∷ ps) enough leads =
     let found = judged-none (packet_fault file s at) (packet_at (logical file) at) p leads.1 in
     let long : length_at (logical file) at ≡ p.length = sym (packet-length (logical file) at) ∙ ap (λ (x : Packet). x.length) found.1 in
     let some = length_at-some (logical file) at in
-    let rest = leads-front file s fuel (at + p.length) to (still_fresh fresh p) fresh' ps (omega (arith, enough, some, long)) leads.3 in
-    (rest.0,
-     ap (λ (w : Walk). w.packets) (walk-step file s fuel at leads.0)
-     ∙ onward-packets (packet_fault file s at) (packet_at (logical file) at) p (walk file s fuel (at + length_at (logical file) at)) found.0 found.1
-     ∙ ap (λ (n : ℕ). p ∷ (walk file s fuel (at + n)).packets) long
-     ∙ ap (λ (l : List Packet). p ∷ l) rest.1)
+    let rest = leads-front file s fuel (at + p.length) to (still_fresh fresh p) fresh' ps (omega (arith, enough, some, long)) leads.3 in (
+      rest.0,
+      ap (λ (w : Walk). w.packets) (walk-step file s fuel at leads.0)
+          ∙ onward-packets (packet_fault file s at) (packet_at (logical file) at) p (walk file s fuel (at + length_at (logical file) at)) found.0 found.1
+          ∙ ap (λ (n : ℕ). p ∷ (walk file s fuel (at + n)).packets) long
+          ∙ ap (λ (l : List Packet). p ∷ l) rest.1,
+    )
 
 leads-place : (judge : ℕ → Result Packet Fault) (limit : ℕ) (fresh fresh' : Bool) (at to : ℕ) (ps : List Packet) → Leads judge limit fresh at ps fresh' to → place_after at ps ≡ to
 unfolding Leads place_after

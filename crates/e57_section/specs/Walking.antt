@@ -1,6 +1,6 @@
 -- A walk packet by packet, as it is taken by a reader that keeps only where it stands. What each place has is given, and so
 -- is the section's end, so the laws of walks know no file.
-use Rattle.std.specs.Prelude.{◌≡◌, ℕ, zero, suc, ◌+◌, ◌-◌, ◌<◌, ◌≤◌, ◌||◌, ◌&&◌, not, nat_lt, Bool, true, false, if◌then◌else◌, List, [], ◌∷◌, ◌++◌, Option, Some, None, Result, Ok, Err}
+use Rattle.std.specs.Prelude.{◌≡◌, ℕ, zero, suc, ◌+◌, ◌-◌, ◌≤◌, ◌||◌, ◌&&◌, not, nat_lt, Bool, true, if◌then◌else◌, List, [], ◌∷◌, Option, Some, None, Result, Ok, Err}
 use Rattle.e57_base.specs.declared.fault.Fault.{Fault}
 use Rattle.e57_page.specs.File.{logical}
 use Rattle.e57_layout.specs.declared.section.Section.{Section}

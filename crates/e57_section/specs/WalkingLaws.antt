@@ -1,17 +1,14 @@
 -- Laws of walks packet by packet.
-use Rattle.std.specs.Prelude.{◌≡◌, ℕ, zero, suc, ◌+◌, ◌-◌, ◌<◌, ◌≤◌, ◌==◌, ◌||◌, ◌&&◌, not, nat_lt, Bool, true, false, if◌then◌else◌, List, [], ◌∷◌, ◌++◌, Option, Some, None, Result, Ok, Err}
-use Rattle.std.specs.List.{onto_first}
+use Rattle.std.specs.Prelude.{◌≡◌, ℕ, zero, suc, ◌+◌, ◌-◌, ◌<◌, ◌≤◌, Bool, true, false, if◌then◌else◌, List, [], ◌∷◌, ◌++◌, Option, Some, None, Result, Ok, Err}
 use Rattle.std.proofs.Common.{refl, sym, subst, ap, ◌∙◌, arith, ⊎_elim}
 use Rattle.std.proofs.lemmas.Bool.{lt-ltb, le-ltb, cases_lt}
 use Rattle.e57_base.specs.declared.fault.Fault.{Fault}
 use Rattle.e57_page.specs.File.{logical}
-use Rattle.e57_layout.specs.Packets.{length_at}
 use Rattle.e57_layout.specs.declared.section.Section.{Section}
-use Rattle.e57_sections.specs.Walk.{Packet, packet_at, packet_fault, walk, walk_from, Walk, onward}
-use Rattle.e57_sections.specs.Chunks.{data_packets, cut, by_chunk, start_of}
-use Rattle.e57_sections.specs.PathItem.{Stretch, stretch_of, stretch, unless}
-use Rattle.e57_sections.specs.Laws.Walks.{length_at-some, walk-end, walk-step}
-use Rattle.e57_section.specs.Walking.{judged_at, Finish, Ends, Restarts, Faulty, Walked, goes_on, still_fresh, ended, before, stepped, walk_on, walk_rest, Leads, finish_fault, finish_next}
+use Rattle.e57_sections.specs.Walk.{Packet, packet_at, packet_fault}
+use Rattle.e57_sections.specs.PathItem.{unless}
+use Rattle.e57_sections.specs.Laws.Walks.{length_at-some}
+use Rattle.e57_section.specs.Walking.{judged_at, Ends, Restarts, Faulty, Walked, goes_on, still_fresh, ended, before, stepped, walk_on, walk_rest, Leads}
 
 -- each packet has bytes
 abbrev pub HaveBytes : (ℕ → Result Packet Fault) → Type 0
@@ -43,16 +40,16 @@ walk_on-enough judge limit (suc fuel) (suc other) fresh at have enough too =
     ⊎_elim
     (λ (past : limit < at + 4). walk_on-end judge limit (suc fuel) fresh at past ∙ sym (walk_on-end judge limit (suc other) fresh at past))
     (λ (there : at + 4 ≤ limit).
-      walk_on-step judge limit fuel fresh at there
-      ∙ by_judged (judge at) refl (λ p is. walk_on-enough judge limit fuel other (still_fresh fresh p) (at + p.length) have (shorter p is enough) (shorter p is too))
-      ∙ sym (walk_on-step judge limit other fresh at there))
+    walk_on-step judge limit fuel fresh at there
+    ∙ by_judged (judge at) refl (λ p is. walk_on-enough judge limit fuel other (still_fresh fresh p) (at + p.length) have (shorter p is enough) (shorter p is too))
+    ∙ sym (walk_on-step judge limit other fresh at there))
     (cases_lt limit (at + 4))
   where
     shorter : (p : Packet) → judge at ≡ Ok p → {n : ℕ} → limit - at ≤ suc n → limit - (at + p.length) ≤ n
     shorter p is h = let some = have at p is in omega (arith, some, h)
 
     by_judged : (found : Result Packet Fault) → judge at ≡ found → ((p : Packet) → judge at ≡ Ok p → walk_on judge limit fuel (still_fresh fresh p) (at + p.length) ≡ walk_on judge limit other (still_fresh fresh p) (at + p.length))
-      → stepped fresh at found (λ p. walk_on judge limit fuel (still_fresh fresh p) (at + p.length)) ≡ stepped fresh at found (λ p. walk_on judge limit other (still_fresh fresh p) (at + p.length))
+        → stepped fresh at found (λ p. walk_on judge limit fuel (still_fresh fresh p) (at + p.length)) ≡ stepped fresh at found (λ p. walk_on judge limit other (still_fresh fresh p) (at + p.length))
     by_judged (Err x) is same = refl
     by_judged (Ok p) is same = ap (λ (w : Walked). if goes_on fresh p then before p w else ended (Restarts at)) (same p is)
 

@@ -1,7 +1,5 @@
 //! Sections of the sample files, in memory, and each fault of a section or packet by its two numbers.
 
-ghost use Rattle.std.specs.Prelude.{◌<◌, ◌≤◌};
-
 use crate::{Loaded, Packet, load_packet, next_packet, open_section};
 use e57_base::{Fault, Kind, MemSource, ReadFault};
 use e57_crc::crc32c;
@@ -19,11 +17,17 @@ const INDEXED: &[u8] = b"\x01\0\0\0\0\0\0\0\x68\0\0\0\0\0\0\0\x50\0\0\0\0\0\0\0\
 \0\0\x2f\0\x02\0\0\0\0\0\0\0\0\0\0\0\0\0\0\0\0\0\0\0\x50\0\0\0\0\0\0\0\x05\0\0\0\0\0\0\0\x5c\0\0\0\0\0\0\0";
 
 // A section of four fields with one data packet and an index: 100 bytes from place 1020 on.
-const STRINGS: &[u8] = b"\x01\0\0\0\0\0\0\0\x64\0\0\0\0\0\0\0\x20\x04\0\0\0\0\0\0\x44\x04\0\0\0\0\0\0\
+const STRINGS: &[u8] =
+    b"\x01\0\0\0\0\0\0\0\x64\0\0\0\0\0\0\0\x20\x04\0\0\0\0\0\0\x44\x04\0\0\0\0\0\0\
 \x01\x01\x23\0\x04\0\x02\0\0\0\x0c\0\x07\0\xf1\x01\0\0\x80\x3f\0\0\0\x40\0\0\0\0\0\x06abc\x02q\0\
 \0\0\x1f\0\x01\0\0\0\0\0\0\0\0\0\0\0\0\0\0\0\0\0\0\0\x20\x04\0\0\0\0\0\0";
 
-fn page(alloc: Global, front: &[u8], more: &[u8], edit: (usize, u8)) -> Result<Vec<u8>, AllocError> {
+fn page(
+    alloc: Global,
+    front: &[u8],
+    more: &[u8],
+    edit: (usize, u8),
+) -> Result<Vec<u8>, AllocError> {
     let mut page = front.to_vec(alloc)?;
     page.extend_from_slice(more)?;
     page.resize(1020, 0)?;
@@ -58,10 +62,10 @@ fn packets(
     pages: &mut Pages<MemSource>,
     place: u64,
     fields: u16,
-) -> Result<(Loaded, usize, Option<Loaded>), ReadFault>
-    requires some { 0 < fields }
-    requires few { fields ≤ 512 }
-{
+) -> Result<(Loaded, usize, Option<Loaded>), ReadFault> {
+    if fields == 0 || fields > 512 {
+        return Err(ReadFault::Source);
+    }
     let section = open_section(pages, 1, place, 12, fields)?;
     let at = section.data_place;
     let Ok(mut buf) = Packet::new(alloc) else {
@@ -86,14 +90,34 @@ fn packets(
 #[test]
 fn sections_and_packets(rt: HostRuntime) -> Result<(), Fail> {
     let refused = |kind, a, b| Err(ReadFault::Refused(Fault { kind, a, b }));
-    let stream = |length| Loaded::Stream { length, restart: true };
+    let stream = |length| Loaded::Stream {
+        length,
+        restart: true,
+    };
     let index = |length| Some(Loaded::Index { length });
     for (edit, place, fields, wanted) in [
         ((1020, 0), 48, 1, Ok((stream(12), 1, Some(stream(12))))),
         ((1020, 0), 1024, 4, Ok((stream(36), 7, index(32)))),
         ((64, 92), 48, 1, Ok((stream(12), 1, index(48)))),
-        ((80, 2), 48, 1, Ok((Loaded::Empty { length: 12 }, 0, Some(stream(12))))),
-        ((81, 0xfe), 48, 1, Ok((Loaded::Stream { length: 12, restart: false }, 1, Some(stream(12))))),
+        (
+            (80, 2),
+            48,
+            1,
+            Ok((Loaded::Empty { length: 12 }, 0, Some(stream(12)))),
+        ),
+        (
+            (81, 0xfe),
+            48,
+            1,
+            Ok((
+                Loaded::Stream {
+                    length: 12,
+                    restart: false,
+                },
+                1,
+                Some(stream(12)),
+            )),
+        ),
         ((86, 4), 48, 1, Ok((stream(12), 4, Some(stream(12))))),
         ((1020, 0), 1020, 1, refused(Kind::SectionPlace, 1, 1020)),
         ((1020, 0), 3061, 1, refused(Kind::SectionPlace, 1, 3061)),
@@ -115,6 +139,9 @@ fn sections_and_packets(rt: HostRuntime) -> Result<(), Fail> {
         assert_eq!(rt; found, wanted, "with {} as byte {}", edit.1, edit.0);
     }
     let mut pages = opened(rt.alloc(), (1020, 0), (50, 1))?;
-    assert_eq!(rt; packets(rt.alloc(), &mut pages, 1024, 4), refused(Kind::Page, 1, 0));
+    assert_eq!(rt;
+        packets(rt.alloc(), &mut pages, 1024, 4),
+        refused(Kind::Page, 1, 0)
+    );
     Ok(())
 }

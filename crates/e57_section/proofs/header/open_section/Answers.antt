@@ -1,4 +1,4 @@
-use Rattle.std.proofs.Common.{◌≡◌, ◌∙◌, ◌+◌, ◌*◌, ◌/◌, ◌<◌, ◌≤◌, Some, None, Option, ℕ, refl, sym, ap, arith, rules}
+use Rattle.std.proofs.Common.{◌≡◌, ◌∙◌, ◌*◌, ◌/◌, Some, None, refl, sym, arith}
 use Rattle.e57_page.specs.PagesLaws.{cut_asks, asks_for_none}
 use Rattle.e57_section.specs.Opening.{header_place}
 use Rattle.e57_section.proofs.Spans.{keeps_only_span, cut_keeps, cut_cause}

@@ -1,4 +1,4 @@
-use Rattle.std.proofs.Common.{◌≡◌, ◌∙◌, ◌+◌, ◌*◌, ◌/◌, ◌<◌, ◌≤◌, List, ℕ, length, take, drop, refl, sym, ap, arith}
+use Rattle.std.proofs.Common.{◌≡◌, ◌∙◌, ◌*◌, ◌/◌, List, ℕ, length, drop, ap}
 use Rattle.std.proofs.lemmas.List.{take_at}
 use Rattle.e57_section.proofs.Openings.{told_size}
 use Rattle.e57_section.proofs.Answered.{lost_head, loaded_index, loaded_empty, lost_data, loaded_data, filled_buffer}

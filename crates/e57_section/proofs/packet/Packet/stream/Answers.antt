@@ -1,11 +1,8 @@
-use Rattle.std.proofs.Common.{◌≡◌, ◌∙◌, ◌<◌, ◌≤◌, ℕ, List, length, get_or, take, drop, refl, sym, ap, arith}
+use Rattle.std.proofs.Common.{◌≡◌, ◌∙◌, ◌≤◌, ℕ, List, length, get_or, refl, ap, arith}
 use Rattle.std.specs.Option.{unwrap_or}
-use Rattle.std.specs.Prelude.{Some, IfSome}
-use Rattle.std.specs.Vec.{vec_len}
 use Rattle.std.proofs.lemmas.List.{get_or_default}
-use Rattle.e57_base.specs.Told.{told_map}
 use Rattle.e57_section.specs.Streams.{first_stream, stream_begin}
-use Rattle.e57_section.proofs.Streams.{HasStream, has_stream}
+use Rattle.e57_section.proofs.Streams.{has_stream}
 use Rattle.e57_section.proofs.packet.Packet.stream.Goals as goal
 
 pub stream_begin-begin-requires : goal.stream_begin-begin-requires
