@@ -1,0 +1,9 @@
+pub mod Moved
+pub mod Spans
+pub mod Heads
+pub mod Shapes
+pub mod Streams
+pub mod Openings
+pub mod Packets
+pub mod Loads
+pub mod Answered
