@@ -37,7 +37,7 @@ impl RawTree {
     ghost use Rattle.e57_elements.specs.Lawful.{AreNodes};
 
     /// The tree of these nodes. Takes no memory.
-    pub(crate) fn new(nodes: Vec<RawNode>) -> RawTree
+    pub fn new(nodes: Vec<RawNode>) -> RawTree
         requires { AreNodes nodes.items }
         ensures { result ≡ nodes.items }
     {

@@ -1,0 +1,2 @@
+-- What holds of the nodes by their numbers.
+pub mod Flat

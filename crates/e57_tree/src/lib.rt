@@ -1,0 +1,14 @@
+//! The tree of typed elements: clouds with their fields, and blobs; or the first fault of the first node at fault.
+#![tactic(auto)]
+
+mod attributes;
+mod fields;
+mod found;
+mod items;
+mod judge;
+mod names;
+mod nodes;
+mod numbers;
+mod places;
+mod rules;
+mod vectors;
