@@ -9,3 +9,5 @@ mod Judged
 mod Adding
 mod Copied
 mod Finding
+mod Leading
+mod Whole

@@ -1,17 +1,21 @@
 -- The clouds and blobs of a tree, as its calls give them.
-use Rattle.std.specs.Prelude.{◌≡◌, ℕ, ◌+◌, List, [], ◌∷◌, ◌++◌, length, Option, Some, None, unwrap_or, option_and_then}
+use Rattle.std.specs.Prelude.{◌≡◌, ℕ, ◌+◌, ◌/◌, ◌<◌, ◌≤◌, List, [], ◌∷◌, ◌++◌, length, Option, Some, None, slice_get, unwrap_or, option_and_then}
+use Rattle.std.specs.List.{AllByRecursion}
 use Rattle.e57_elements.specs.declared.tree.RawNode.{RawNode}
 use Rattle.e57_elements.specs.Tree.{Element, preorder}
 use Rattle.e57_elements.specs.Lawful.{AreNodes}
 use Rattle.e57_layout.specs.declared.field.Field.{Field}
+use Rattle.e57_layout.specs.declared.field.Fixed.{Fixed}
+use Rattle.e57_layout.specs.Values.{ItemKind, integers, words, strings, IsValidField}
+use Rattle.e57_sections.specs.Cloud.{float_from}
 use Rattle.e57_nodes.specs.declared.ElementType.{ElementType}
 use Rattle.e57_nodes.specs.declared.ElementType.TheVariants as element_type
 use Rattle.e57_nodes.specs.Facts.{value_of, unsigned_in}
 use Rattle.e57_nodes.specs.Shape.{shape_of}
 use Rattle.e57_nodes.specs.Places.{place_name, places_in}
 use Rattle.e57_nodes.specs.Fields.{fields_of}
-use Rattle.e57_nodes.specs.Typed.{typed_fault}
-use Rattle.e57_nodes.specs.Items.{StatedItem, stated_cloud, stated_blob, stated_items}
+use Rattle.e57_nodes.specs.Typed.{max_fields, typed_fault}
+use Rattle.e57_nodes.specs.Items.{StatedItem, stated_cloud, stated_blob, stated_items, leaves_of}
 use Rattle.e57_tree.specs.declared.items.Cloud.{Cloud}
 use Rattle.e57_tree.specs.declared.items.Blob.{Blob}
 use Rattle.e57_tree.specs.declared.items.Item.{Item}
@@ -59,6 +63,22 @@ items_of e = items_among 0 0 (stated_items (shape_of e))
 abbrev pub cloud_fields : Element → List (List Field)
 cloud_fields e = fields_among (stated_items (shape_of e))
 
+-- 1 to 512 fields, each valid.
+pub record AreCloudFields (fields : List Field) : Type 0 where
+  pub some : 0 < length fields
+  pub few : length fields ≤ max_fields
+  pub each : AllByRecursion IsValidField fields
+
+-- the bytes of an item of a Float; 0 of another field
+abbrev pub float_bytes : ItemKind → ℕ
+float_bytes (integers low high) = 0
+float_bytes (words w) = w / 8
+float_bytes strings = 0
+
+-- the first Float field of cloud k
+abbrev pub IsFixed : List (List Field) → ℕ → Option Fixed → Type 0
+IsFixed clouds k fixed = (fields : List Field) → slice_get clouds k ≡ Some fields → fixed ≡ float_from 0 (leaves_of fields)
+
 -- They are those of the tree.
 pub record Holds (e : Element) (found : Found) : Type 0 where
   pub clouds : found.clouds.items ≡ clouds_of e
@@ -77,9 +97,12 @@ pub record IsTree (nodes : List RawNode) (found : Found) : Type 0 where
 abbrev pub place_at : List RawNode → ℕ → ℕ
 place_at nodes n = unwrap_or (option_and_then unsigned_in (value_of place_name (raw_at nodes n).attrs)) 0
 
+abbrev pub cloud_at : List RawNode → ℕ → Cloud
+cloud_at nodes n = record { node = n; place = place_at nodes n; count = unwrap_or (facts_in (raw_at nodes n)).record_count 0 }
+
 -- The cloud at the node is added.
 pub record AddsCloud (nodes : List RawNode) (n : ℕ) (old new : Found) : Type 0 where
-  pub clouds : new.clouds.items ≡ old.clouds.items ++ (record { node = n; place = place_at nodes n; count = unwrap_or (facts_in (raw_at nodes n)).record_count 0 }) ∷ []
+  pub clouds : new.clouds.items ≡ old.clouds.items ++ cloud_at nodes n ∷ []
   pub blobs : new.blobs.items ≡ old.blobs.items
   pub items : new.items.items ≡ old.items.items ++ item.Cloud (length old.clouds.items) ∷ []
   pub fields : new.fields.items ≡ old.fields.items ++ fields_of (node_in nodes n) ∷ []

@@ -1,10 +1,10 @@
 //! The clouds and blobs that are found in a tree.
 
-ghost use Rattle.std.specs.Prelude.{◌≡◌, ◌≤◌, ◌<◌, [], length, IfOk, OnOk};
+ghost use Rattle.std.specs.Prelude.{◌≡◌, ◌≤◌, ◌<◌, ◌^◌, length, IfOk, OnOk};
 ghost use Rattle.e57_elements.specs.Tree.{Element, preorder};
 ghost use Rattle.e57_nodes.specs.Facts.{type_in};
 ghost use Rattle.e57_tree.specs.Flat.{raw_at};
-ghost use Rattle.e57_tree.specs.Held.{AddsBlob, AddsCloud, AddsNode, Holds};
+ghost use Rattle.e57_tree.specs.Held.{cloud_at, AddsBlob, AddsCloud, AddsNode, Holds};
 
 use crate::attributes::{blob_length, place, record_count};
 use crate::fields::{Fields, fields_of};
@@ -47,6 +47,7 @@ impl Found {
         requires blobs { length self.old.blobs.items ≤ n }
         ensures { OnOk result (AddsNode raw.now n (type_in (raw_at raw.now n).attrs) self.old self.new) }
     {
+        let _end = end_of(raw, n);
         match type_of(raw, n) {
             Some(ElementType::CompressedVector) => self.add_cloud(alloc, raw, n),
             Some(ElementType::Blob) => self.add_blob(raw, n),
@@ -63,21 +64,16 @@ impl Found {
     }
 
     /// Adds the cloud at a CompressedVector.
-    #[tactic(auto, unfolding(e57_nodes::specs::Facts::facts_of))]
     fn add_cloud(&mut self, alloc: Global, raw: &RawTree, n: usize) -> Result<(), AllocError>
         requires node { n < length raw.now }
+        requires few { n < 2 ^ 32 }
         requires clouds { length self.old.clouds.items ≤ n }
         ensures { OnOk result (AddsCloud raw.now n self.old self.new) }
     {
-        let _end = end_of(raw, n);
-        let attrs = &node(raw, n).attrs;
-        let cloud = Cloud {
-            node: n as u32,
-            place: place(attrs).unwrap_or(0),
-            count: record_count(attrs).unwrap_or(0),
-        };
+        let cloud = cloud_at(raw, n);
         let number = self.clouds.len() as u32;
-        self.fields.push(fields_of(alloc, raw, n)?)?;
+        let fields = fields_of(alloc, raw, n)?;
+        self.fields.push(fields)?;
         self.items.push(Item::Cloud(number))?;
         self.clouds.push(cloud)?;
         Ok(())
@@ -101,5 +97,20 @@ impl Found {
         self.items.push(Item::Blob(number))?;
         self.blobs.push(blob)?;
         Ok(())
+    }
+}
+
+/// The cloud that a CompressedVector states.
+#[tactic(auto, unfolding(e57_nodes::specs::Facts::facts_of))]
+fn cloud_at(raw: &RawTree, n: usize) -> Cloud
+    requires { n < length raw.now }
+    ensures { result ≡ cloud_at raw.now n }
+{
+    let _end = end_of(raw, n);
+    let attrs = &node(raw, n).attrs;
+    Cloud {
+        node: n as u32,
+        place: place(attrs).unwrap_or(0),
+        count: record_count(attrs).unwrap_or(0),
     }
 }

@@ -9,6 +9,11 @@ mod judge;
 mod names;
 mod nodes;
 mod numbers;
+mod path;
 mod places;
 mod rules;
+mod tree;
 mod vectors;
+
+pub use items::{Blob, Cloud, Item};
+pub use tree::Tree;
