@@ -74,11 +74,12 @@ late_past raw text.Memory nodes judged = tt
 
 -- a node has a fault
 pub late_cause : (old new : SourceView) (raw : List RawNode) (fault : TextFault) → AreNodes raw → IsTextRead old raw → AreJudged raw (Err fault) → IsOpenCause old (text_as_open fault) new
-late_cause old new raw (text.Refused found) nodes reads judged =
-    (right_kind (is_text_kind found.kind) (is_node_kind found.kind) (node_kind None 0 (shape_of nodes.tree) found (judged nodes.tree nodes.in_preorder)),
-    told_both (λ file. section_fault file ≡ None) (λ file. Reads (section_text file) raw) (λ file. IsTreeFault file found) old.held
-    (λ file sound read. inr (read.tree, record { sound = sound; spells = read.spells; is_lawful = read.is_lawful }, judged read.tree read.in_preorder))
-    reads.sound reads.tree)
+late_cause old new raw (text.Refused found) nodes reads judged = (
+  right_kind (is_text_kind found.kind) (is_node_kind found.kind) (node_kind None 0 (shape_of nodes.tree) found (judged nodes.tree nodes.in_preorder)),
+  told_both (λ file. section_fault file ≡ None) (λ file. Reads (section_text file) raw) (λ file. IsTreeFault file found) old.held
+      (λ file sound read. inr (read.tree, record { sound = sound; spells = read.spells; is_lawful = read.is_lawful }, judged read.tree read.in_preorder))
+      reads.sound reads.tree,
+)
 late_cause old new raw text.Memory nodes reads judged = tt
 
 -- the nodes have no fault
@@ -101,5 +102,5 @@ pub number_of : (rows : List (List Field)) (k : ℕ) (here fields : List Field) 
 number_of rows k here fields path number is so also =
     let same : here ≡ fields = some_same here fields (sym is ∙ also) in
     subst (λ (xs : List Field). number ≡ field_number path xs) same so where
-  some_same : (a b : List Field) → ◌≡◌ {A = Option (List Field)} (Some a) (Some b) → a ≡ b
-  some_same a b e = cc
+      some_same : (a b : List Field) → ◌≡◌ {A = Option (List Field)} (Some a) (Some b) → a ≡ b
+      some_same a b e = cc
