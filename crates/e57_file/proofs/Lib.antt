@@ -1,1 +1,3 @@
 pub mod Sections
+pub mod NodeKinds
+pub mod Opening

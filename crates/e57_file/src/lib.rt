@@ -1,7 +1,9 @@
 //! One opened file: the tree of its XML section.
 #![tactic(auto)]
 
+mod file;
 mod section;
 mod text;
 
+pub use file::E57;
 pub use text::open_text;

@@ -45,8 +45,16 @@ const PAGES: &[&str] = &["pages", "scan"];
 
 const LINE: &str = "pages 2 xml 136 933\n";
 
+const THREE_RECORDS_LINES: &str = "cloud 0 /p records 3 fields 4
+field 0 x integer 0 7
+field 1 c integer 5 5
+field 2 f float32
+field 3 s string
+";
+
 const HELP: &str = "e57 pages FILE   test the checksums of all pages
 e57 info FILE    show the element tree
+e57 list FILE    list the clouds with their fields, and the blobs
 e57 --help       show this text
 e57 --version    show the version
 status 0   done
@@ -59,7 +67,7 @@ status 6   the file doesn't have what was asked for
 ";
 
 #[rattlefmt::skip]
-const CASES: [Case; 21] = [
+const CASES: [Case; 26] = [
     (PAGES, Content::TwoPages, Status::Done, LINE, "", &[0, 0, 1]),
     (PAGES, Content::OtherWordOrder, Status::Done, LINE, "", &[0, 0, 1]),
     (PAGES, Content::ThreeRecords, Status::Done, "pages 3 xml 2048 320\n", "", &[0, 0, 1, 2]),
@@ -71,6 +79,10 @@ const CASES: [Case; 21] = [
     (&["info", "scan"], Content::OddLength, Status::Refused, "", "refused FileLength 1500 0\n", &[]),
     (&["pages", "absent"], Content::TwoPages, Status::SourceFault, "", "source fault\n", &[]),
     (&["info", "absent"], Content::TwoPages, Status::SourceFault, "", "source fault\n", &[]),
+    (&["list", "scan"], Content::ThreeRecords, Status::Done, THREE_RECORDS_LINES, "", &[0, 2]),
+    (&["list", "scan"], Content::OtherVersion, Status::Refused, "", "refused Version 1 1\n", &[0]),
+    (&["list", "scan"], Content::OddLength, Status::Refused, "", "refused FileLength 1500 0\n", &[]),
+    (&["list", "absent"], Content::TwoPages, Status::SourceFault, "", "source fault\n", &[]),
     (&["--help"], Content::TwoPages, Status::Done, HELP, "", &[]),
     (&["--version"], Content::TwoPages, Status::Done, "e57 0.1.0\n", "", &[]),
     (&[], Content::TwoPages, Status::WordsFault, "", "words 0\n", &[]),
@@ -80,6 +92,7 @@ const CASES: [Case; 21] = [
     (&["--version", "x"], Content::TwoPages, Status::WordsFault, "", "words 1\n", &[]),
     (&["pages"], Content::TwoPages, Status::WordsFault, "", "words 1\n", &[]),
     (&["pages", "--all", "scan"], Content::TwoPages, Status::WordsFault, "", "words 1\n", &[]),
+    (&["list"], Content::TwoPages, Status::WordsFault, "", "words 1\n", &[]),
     (&["info", "scan", "b"], Content::TwoPages, Status::WordsFault, "", "words 2\n", &[]),
 ];
 
@@ -107,9 +120,10 @@ fn info_puts_the_written_spelling(rt: HostRuntime) -> Result<(), Fail> {
 }
 
 // The words, and the pages that are asked for where no call fails.
-const CALLS: [(&[&str], &[u64]); 2] = [
+const CALLS: [(&[&str], &[u64]); 3] = [
     (&["pages", "scan"], &[0, 0, 1, 2]),
     (&["info", "scan"], &[0, 2]),
+    (&["list", "scan"], &[0, 2]),
 ];
 
 // Call 0 opens the file, and each later one asks for a page.
@@ -130,9 +144,10 @@ fn each_failed_call_of_the_source_is_a_source_fault(rt: HostRuntime) -> Result<(
     Ok(())
 }
 
-const PUTTING: [&[&str]; 4] = [
+const PUTTING: [&[&str]; 5] = [
     &["pages", "scan"],
     &["info", "scan"],
+    &["list", "scan"],
     &["--help"],
     &["--version"],
 ];

@@ -83,3 +83,41 @@ pub fn changed(mut bytes: Vec<u8>, at: usize) -> Vec<u8> {
     }
     bytes
 }
+
+// The element text of `two_points`, as another program wrote it.
+const TWO_POINTS_TEXT: &str = "<?xml version=\"1.0\" encoding=\"UTF-8\"?>
+<e57Root type=\"Structure\" xmlns=\"http://www.astm.org/COMMIT/E57/2010-e57-v1.0\">
+<formatName type=\"String\"><![CDATA[ASTM E57 3D Imaging Data File]]></formatName>
+<versionMajor type=\"Integer\">1</versionMajor>
+<versionMinor type=\"Integer\"/>
+<data3D type=\"Vector\" allowHeterogeneousChildren=\"1\">
+<vectorChild type=\"Structure\">
+<points type=\"CompressedVector\" fileOffset=\"48\" recordCount=\"2\">
+<prototype type=\"Structure\">
+<cartesianX type=\"Float\" precision=\"single\"/>
+<cartesianY type=\"Float\" precision=\"single\"/>
+<cartesianZ type=\"Float\" precision=\"single\"/>
+<intensity type=\"Integer\" minimum=\"0\" maximum=\"4095\"/>
+<colorRed type=\"Integer\" minimum=\"0\" maximum=\"255\"/>
+<colorGreen type=\"Integer\" minimum=\"0\" maximum=\"255\"/>
+<colorBlue type=\"Integer\" minimum=\"0\" maximum=\"255\"/>
+</prototype>
+<codecs type=\"Vector\" allowHeterogeneousChildren=\"1\"></codecs>
+</points>
+</vectorChild>
+</data3D>
+</e57Root>
+";
+
+// The section of `two_points`: its header and a data packet.
+const TWO_POINTS_SECTION: &[u8; 88] =
+    b"\x01\0\0\0\0\0\0\0X\0\0\0\0\0\0\0P\0\0\0\0\0\0\0\0\0\0\0\0\0\0\0\x01\07\0\x07\0\x08\0\x08\0\x08\0\x04\0\x02\0\x02\0\x02\0\0\0\x80?\0\0\x80\xbf\0\0\0@\0\0\0\0\0\0\0?\0\0\0@d\xf0\xff\0\xff\x01\0\x02\x10\x03\0\0";
+
+/// A file of two pages in which a cloud of two records follows the header, and then the element text.
+pub fn two_points(alloc: Global) -> Result<Vec<u8>, AllocError> {
+    let mut logical = header(alloc, 2, 136, TWO_POINTS_TEXT.len() as u64)?;
+    logical.extend_from_slice(TWO_POINTS_SECTION.as_slice())?;
+    logical.extend_from_slice(TWO_POINTS_TEXT.as_bytes())?;
+    logical.resize(2040, 0)?;
+    file(alloc, &logical, WordOrder::MostSignificantFirst)
+}

@@ -9,4 +9,6 @@ mod faults;
 #[cfg(test)]
 mod files;
 #[cfg(test)]
+mod listings;
+#[cfg(test)]
 mod runs;

@@ -1,2 +1,5 @@
 pub mod Opening
+pub mod Showing
 pub mod Info
+pub mod Listing
+pub mod Items

@@ -3,7 +3,8 @@
 ghost use Rattle.std.specs.Prelude.{◌≡◌, Some, None, MatchResult};
 ghost use Rattle.e57_file.specs.Text.{AsksForXml};
 ghost use Rattle.e57_show.specs.Opening.{JudgesPlaceFirst};
-ghost use Rattle.e57_show.specs.Info.{InfoEnds};
+ghost use Rattle.e57_show.specs.Info.{info_shown};
+ghost use Rattle.e57_show.specs.Showing.{ShowEnds};
 
 use e57_base::{RunFault, Sink, Source};
 use e57_elements::{one_answer, write_elements};
@@ -25,8 +26,8 @@ pub fn info<S: Source, O: Sink>(
     ensures asked { AsksForXml pages.old (S.view pages.old.source) (S.view pages.new.source) }
     ensures place { JudgesPlaceFirst pages.old (O.view out.old) result pages.new (O.view out.new) }
     ensures ends { MatchResult result
-        (λ _. InfoEnds (S.view pages.old.source) (S.view pages.new.source) (O.view out.old) (O.view out.new) None)
-        (λ fault. InfoEnds (S.view pages.old.source) (S.view pages.new.source) (O.view out.old) (O.view out.new) (Some fault)) }
+        (λ _. ShowEnds info_shown (S.view pages.old.source) (S.view pages.new.source) (O.view out.old) (O.view out.new) None)
+        (λ fault. ShowEnds info_shown (S.view pages.old.source) (S.view pages.new.source) (O.view out.old) (O.view out.new) (Some fault)) }
 {
     // A text that spells a tree has no fault.
     one_answer();

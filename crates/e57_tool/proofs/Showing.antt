@@ -1,4 +1,4 @@
--- How `info` ends, from what opening the file and showing its text found.
+-- How a command ends that opens a file and shows it, from what opening the file and showing it found.
 use Rattle.std.proofs.Common.{◌≡◌, ℕ, ◌*◌, ◌/◌, ◌<◌, ◌≤◌, min, max, Bool, true, false, ◌||◌, List, [], ◌∷◌, length, Option, Some, None, Result, Err, inl, inr, refl, sym, subst, ◌∙◌, arith, lit≤}
 use Rattle.std.specs.Prelude.{IfSome, MatchOption, IfErr}
 use Rattle.e57_base.specs.Count.{rose_before}
@@ -22,18 +22,18 @@ use Rattle.e57_page.specs.Opening.{IsOpenedFile, IsUnopenedFile, AsksAtMostForFi
 use Rattle.e57_page.specs.Pages.{Reading, AsksFor, AsksUnkept, is_opening_kind}
 use Rattle.e57_page.specs.PagesLaws.{asks_unkept_from}
 use Rattle.e57_page.specs.XmlSection.{xml_start, xml_span_fault}
-use Rattle.e57_file.specs.Text.{IsTextFault, AsksForXml, is_text_kind}
-use Rattle.e57_show.specs.Info.{InfoEnds, ShowsText, HasNoTextFault, IsShown}
+use Rattle.e57_file.specs.Text.{AsksForXml}
+use Rattle.e57_show.specs.Showing.{Shown, ShowEnds, ShowsText, HasNoFault}
 use Rattle.e57_show.specs.Opening.{IsPastPlace, JudgesPlaceFirst}
 use Rattle.e57_tool.specs.declared.ending.Ending.TheVariants.{Failed}
 use Rattle.e57_tool.specs.PagesAsked.{StopsAtOpening}
 use Rattle.e57_tool.specs.FileAnswer.{ReadsFile}
-use Rattle.e57_tool.specs.Info.{IsInfoFault, HasSoundText, HasTextPlace, IsFirstAndThen, IsTextAsk, AsksForText, info_answer, info_rule}
+use Rattle.e57_tool.specs.Show.{IsShowFault, HasNoShowFault, HasTextPlace, IsFirstAndThen, IsTextAsk, AsksForText, show_answer, text_rule}
 use Rattle.e57_tool.proofs.Asked.{told_always, stops_before, stops_at_first, goes_on}
 
 -- no file has a fault and none
-pub is_either : (file : List ℕ) (found : Fault) → HasSoundText file → IsInfoFault file found → ⊥
-is_either file found sound fault = sound found fault
+pub is_either : (shown : Shown) (file : List ℕ) (found : Fault) → HasNoShowFault shown file → IsShowFault shown file found → ⊥
+is_either shown file found sound fault = sound found fault
 
 -- so few pages that no place was judged
 few : (pages : List ℕ) (source : SourceView) → length pages ≤ 1 → IfSome source.held (λ file. IfSome (xml_span_fault (header_of file) (logical_size file)) (λ _. length pages ≤ 1))
@@ -74,19 +74,19 @@ other_kind true b e = refl
 other_kind false b e = e
 
 -- the file was not opened
-pub unopened_info : (name : List ℕ) (old new : SourceView) (out : SinkView) (fault : ReadFault) → IsUnopenedFile name old fault new → ReadsFile info_answer info_rule name old new out out (Failed (read_as_run fault))
-unopened_info name old new out (read.Refused found) refused =
+pub unopened : (shown : Shown) (name : List ℕ) (old new : SourceView) (out : SinkView) (fault : ReadFault) → IsUnopenedFile name old fault new → ReadsFile (show_answer shown) text_rule name old new out out (Failed (read_as_run fault))
+unopened shown name old new out (read.Refused found) refused =
     record {
       pages = unopened_asked old new refused.asked;
       answers = record {
         opens = refused.opens;
         file = refused.file;
-        first = told_map (λ file. opening_fault file ≡ Some found) (λ file. IsInfoFault file found) new.held (λ file first. inl first) refused.first;
-        kind = either_kind (is_opening_kind found.kind) (is_text_kind found.kind) refused.kind;
+        first = told_map (λ file. opening_fault file ≡ Some found) (λ file. IsShowFault shown file found) new.held (λ file first. inl first) refused.first;
+        kind = either_kind (is_opening_kind found.kind) (shown.is_named found.kind) refused.kind;
         nothing = refl;
       };
     }
-unopened_info name old new out read.Source lost = record { pages = unopened_asked old new lost.asked; answers = record { opens = lost.opens; cause = lost.cause; nothing = refl } }
+unopened shown name old new out read.Source lost = record { pages = unopened_asked old new lost.asked; answers = record { opens = lost.opens; cause = lost.cause; nothing = refl } }
 
 -- the place of the section, by the numbers that were read and by the file
 place_told : (mid : SourceView) (size : ℕ) (header : Header) (outcome : Option Fault) → IfSome mid.held (λ file. length file ≡ size) → IfSome mid.held (λ file. header ≡ header_of file) → xml_span_fault header (size / 1024 * 1020) ≡ outcome → IfSome mid.held (λ file. xml_span_fault (header_of file) (logical_size file) ≡ outcome)
@@ -145,29 +145,29 @@ placed before after out out' result is judged = elim (xml_span_fault before.head
   | Some found ↦ λ refused. absurd (not_both result found is refused.0)
 ] judged
 
-no_info_fault : (file : List ℕ) → opening_fault file ≡ None → HasNoTextFault file → HasSoundText file
-no_info_fault file opens none found (inl early) = absurd cc
-no_info_fault file opens none found (inr (before, late)) = none found late
+no_show_fault : (shown : Shown) (file : List ℕ) → opening_fault file ≡ None → HasNoFault shown file → HasNoShowFault shown file
+no_show_fault shown file opens none found (inl early) = absurd cc
+no_show_fault shown file opens none found (inr (before, late)) = none found late
 
 -- What a text that is shown says of the file.
-pub record IsShownFile (name : List ℕ) (old : SourceView) (text : List ℕ) (new : SourceView) : Type 0 where
+pub record IsShownFile (shown : Shown) (name : List ℕ) (old : SourceView) (text : List ℕ) (new : SourceView) : Type 0 where
   pub opens : OpensOnce old name new
   pub file : IsOpen old name new
-  pub sound : IfSome new.held HasSoundText
-  pub output : IfSome new.held (λ file. IsShown file text)
+  pub sound : IfSome new.held (HasNoShowFault shown)
+  pub output : IfSome new.held (λ file. shown.is_output file text)
 
-pub shown_file : (name : List ℕ) (old mid new : SourceView) (size : ℕ) (header : Header) (text rest : List ℕ) → IsOpenedFile name old size header mid → AsksFor mid rest new → ShowsText mid text → IsShownFile name old text new
-shown_file name old mid new size header text rest opened asks shows =
+pub shown_file : (shown : Shown) (name : List ℕ) (old mid new : SourceView) (size : ℕ) (header : Header) (text rest : List ℕ) → IsOpenedFile name old size header mid → AsksFor mid rest new → ShowsText shown mid text → IsShownFile shown name old text new
+shown_file shown name old mid new size header text rest opened asks shows =
     record {
       opens = opens_later opened.opens asks.same asks.faults;
       file = open_later old mid new name opened.file asks.same;
-      sound = told_here HasSoundText mid.held new.held asks.same.held (told_both (λ file. opening_fault file ≡ None) HasNoTextFault HasSoundText mid.held (λ file sound none. no_info_fault file sound none) opened.sound shows.sound);
-      output = told_here (λ file. IsShown file text) mid.held new.held asks.same.held shows.shown;
+      sound = told_here (HasNoShowFault shown) mid.held new.held asks.same.held (told_both (λ file. opening_fault file ≡ None) (HasNoFault shown) (HasNoShowFault shown) mid.held (λ file sound none. no_show_fault shown file sound none) opened.sound shows.sound);
+      output = told_here (λ file. shown.is_output file text) mid.held new.held asks.same.held shows.output;
     }
 
 -- the text has a fault, or a call failed
-pub failed_info : {S T : Type 0} (view : S → SourceView) (name : List ℕ) (old : SourceView) (before after : Reading S) (out out' : SinkView) (result : Result T RunFault) (fault : RunFault) → result ≡ Err fault → IsOpenedFile name old before.length before.header (view before.source) → AsksForXml before (view before.source) (view after.source) → JudgesPlaceFirst before out result after out' → AsksForText old (view after.source) → InfoEnds (view before.source) (view after.source) out out' (Some fault) → ReadsFile info_answer info_rule name old (view after.source) out out' (Failed fault)
-failed_info view name old before after out out' result (Refused found) is opened asked judged pages (kind, first, nothing) =
+pub failed : {S T : Type 0} (shown : Shown) (view : S → SourceView) (name : List ℕ) (old : SourceView) (before after : Reading S) (out out' : SinkView) (result : Result T RunFault) (fault : RunFault) → result ≡ Err fault → IsOpenedFile name old before.length before.header (view before.source) → AsksForXml before (view before.source) (view after.source) → JudgesPlaceFirst before out result after out' → AsksForText old (view after.source) → ShowEnds shown (view before.source) (view after.source) out out' (Some fault) → ReadsFile (show_answer shown) text_rule name old (view after.source) out out' (Failed fault)
+failed shown view name old before after out out' result (Refused found) is opened asked judged pages (kind, first, nothing) =
     let asks = asked.3 in
     let mid = view before.source in
     let new = view after.source in
@@ -176,24 +176,24 @@ failed_info view name old before after out out' result (Refused found) is opened
       answers = record {
         opens = opens_later opened.opens asks.same asks.faults;
         file = open_later old mid new name opened.file asks.same;
-        first = told_here (λ file. IsInfoFault file found) mid.held new.held asks.same.held (told_both (λ file. opening_fault file ≡ None) (λ file. IsTextFault file found) (λ file. IsInfoFault file found) mid.held (λ file sound late. inr (sound, late)) opened.sound first);
-        kind = other_kind (is_opening_kind found.kind) (is_text_kind found.kind) kind;
+        first = told_here (λ file. IsShowFault shown file found) mid.held new.held asks.same.held (told_both (λ file. opening_fault file ≡ None) (λ file. shown.is_faulty file found) (λ file. IsShowFault shown file found) mid.held (λ file sound late. inr (sound, late)) opened.sound first);
+        kind = other_kind (is_opening_kind found.kind) (shown.is_named found.kind) kind;
         nothing = nothing;
       };
     }
-failed_info view name old before after out out' result Source is opened asked judged pages (cause, nothing) =
+failed shown view name old before after out out' result Source is opened asked judged pages (cause, nothing) =
     let asks = asked.3 in
     record {
       pages = pages;
       answers = record { opens = opens_later opened.opens asks.same asks.faults; cause = rose_before old.faults (view before.source).faults (view after.source).faults opened.opens.faults cause; nothing = nothing };
     }
-failed_info view name old before after out out' result Out is opened asked judged pages (text, shows, cause, wrote) =
-    let file = shown_file name old (view before.source) (view after.source) before.length before.header text asked.0 opened asked.3 shows in
+failed shown view name old before after out out' result Out is opened asked judged pages (text, shows, cause, wrote) =
+    let file = shown_file shown name old (view before.source) (view after.source) before.length before.header text asked.0 opened asked.3 shows in
     record {
       pages = pages;
       answers = record { opens = file.opens; file = file.file; sound = file.sound; cause = cause; wrote = (text, file.output, wrote) };
     }
-failed_info view name old before after out out' result Memory is opened asked judged pages nothing =
+failed shown view name old before after out out' result Memory is opened asked judged pages nothing =
     let asks = asked.3 in
     let mid = view before.source in
     let new = view after.source in
@@ -209,4 +209,4 @@ failed_info view name old before after out out' result Memory is opened asked ju
         nothing = nothing;
       };
     }
-failed_info view name old before after out out' result (Ask why) is opened asked judged pages never = absurd never
+failed shown view name old before after out out' result (Ask why) is opened asked judged pages never = absurd never

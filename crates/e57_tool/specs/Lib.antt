@@ -9,5 +9,5 @@ pub mod PagesAsked
 pub mod FileAnswer
 pub mod Text
 pub mod Pages
-pub mod Info
+pub mod Show
 pub mod Commands

@@ -3,7 +3,7 @@ use Rattle.std.specs.Prelude.{ℕ, if◌then◌else◌, List, [], ◌∷◌, Res
 use Rattle.std.specs.Str.{bytes_eq}
 use Rattle.e57_tool.specs.Cursor.{Unread, next_place, at_end}
 use Rattle.e57_tool.specs.declared.words.Ask.{Ask}
-use Rattle.e57_tool.specs.declared.words.Ask.TheVariants.{Help, Version, Pages, Info}
+use Rattle.e57_tool.specs.declared.words.Ask.TheVariants as asked
 
 -- a command with its places
 pub data Command : Type 0 where
@@ -15,6 +15,8 @@ pub data Command : Type 0 where
   PagesOf : (file : List ℕ) → Command
   -- `info FILE`
   InfoOf : (file : List ℕ) → Command
+  -- `list FILE`
+  ListOf : (file : List ℕ) → Command
 
 -- the one place behind a command, and no word behind it
 abbrev pub only_place : Unread → Result (List ℕ) ℕ
@@ -35,6 +37,7 @@ command_ask command words =
     else if bytes_eq command (codes "--version") then at_end VersionAsked words
     else if bytes_eq command (codes "pages") then with_place PagesOf (only_place words)
     else if bytes_eq command (codes "info") then with_place InfoOf (only_place words)
+    else if bytes_eq command (codes "list") then with_place ListOf (only_place words)
     else Err 0
 
 -- What the words ask for, or the number of the first word at fault. The command is word 0. Where a place is missing, it is
@@ -45,7 +48,8 @@ ask_of (command ∷ words) = command_ask command (record { at = 1; words = words
 
 -- an ask as a command
 abbrev pub command_of : Ask → Command
-command_of Help = HelpAsked
-command_of Version = VersionAsked
-command_of (Pages file) = PagesOf file.now
-command_of (Info file) = InfoOf file.now
+command_of asked.Help = HelpAsked
+command_of asked.Version = VersionAsked
+command_of (asked.Pages file) = PagesOf file.now
+command_of (asked.Info file) = InfoOf file.now
+command_of (asked.List file) = ListOf file.now

@@ -6,6 +6,7 @@ ghost use Rattle.e57_tool.specs.Commands.{promise_of};
 
 use crate::ending::Ending;
 use crate::info::show_info;
+use crate::list::show_list;
 use crate::pages::test_pages;
 use crate::text::{put_help, put_version};
 use crate::words::Ask;
@@ -27,5 +28,6 @@ pub fn perform<S: Source, T: Target, O: Sink>(
         Ask::Version => put_version(source, target, out),
         Ask::Pages(file) => test_pages(file, source, target, out),
         Ask::Info(file) => show_info(alloc, file, source, target, out),
+        Ask::List(file) => show_list(alloc, file, source, target, out),
     }
 }

@@ -1,8 +1,9 @@
 //! `info FILE`
 
+ghost use Rattle.e57_show.specs.Info.{info_shown};
 ghost use Rattle.e57_tool.specs.FileAnswer.{ReadsFile};
 ghost use Rattle.e57_tool.specs.Run.{Keeps};
-ghost use Rattle.e57_tool.specs.Info.{info_rule, info_answer, info_promise};
+ghost use Rattle.e57_tool.specs.Show.{info_promise, show_answer, text_rule};
 
 use crate::ending::Ending;
 use e57_base::{RunFault, Sink, Source, Target};
@@ -12,7 +13,7 @@ use std::alloc::Global;
 
 // Opens the file, and puts the written spelling of its element tree and a line feed on `out`.
 fn show_file<S: Source, O: Sink>(alloc: Global, name: &str, source: S, out: &mut O) -> (S, Ending)
-    ensures { ReadsFile info_answer info_rule name.now
+    ensures { ReadsFile (show_answer info_shown) text_rule name.now
         (S.view source) (S.view result.0) (O.view out.old) (O.view out.new) result.1 }
 {
     let mut pages = match open_file(name, source) {

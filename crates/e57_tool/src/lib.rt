@@ -6,6 +6,7 @@ mod cursor;
 mod ending;
 mod info;
 mod lines;
+mod list;
 mod pages;
 mod program;
 mod status;

@@ -17,6 +17,8 @@ pub enum Ask<'a> {
     Pages(&'a str),
     /// `info FILE`
     Info(&'a str),
+    /// `list FILE`
+    List(&'a str),
 }
 
 // The one place behind a command, a file's name, and no word behind it.
@@ -52,6 +54,7 @@ fn read_command<'a>(command: &str, words: Cursor<'a>) -> Result<Ask<'a>, WordFau
         "--version" => no_place(Ask::Version, words),
         "pages" => Ok(Ask::Pages(only_place(words)?)),
         "info" => Ok(Ask::Info(only_place(words)?)),
+        "list" => Ok(Ask::List(only_place(words)?)),
         _ => Err(WordFault { at: 0 }),
     }
 }
