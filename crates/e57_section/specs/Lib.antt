@@ -3,3 +3,6 @@ pub mod Opening
 pub mod Streams
 pub mod Steps
 pub mod Loading
+pub mod Walking
+pub mod WalkingLaws
+pub mod AskingLaws
