@@ -1,1 +1,4 @@
 pub mod Listed
+pub mod Moved
+pub mod Asked
+pub mod Starts

@@ -1,1 +1,4 @@
 pub mod Picking
+pub mod Asking
+pub mod OnePacket
+pub mod Reading
