@@ -2,3 +2,5 @@ pub mod Listed
 pub mod Moved
 pub mod Asked
 pub mod Starts
+pub mod Judged
+pub mod Judging

@@ -21,7 +21,7 @@ use Rattle.e57_packet.specs.Reading.{is_misshapen_index as is_misshapen_start}
 use Rattle.e57_sections.specs.Section.{when}
 use Rattle.e57_sections.specs.Index.{known_place, is_misshapen_index, index_shape_fault}
 use Rattle.e57_section.specs.Steps.{IsSpanCause}
-use Rattle.e57_index.specs.Reading.{is_index_kind, IsStartCause}
+use Rattle.e57_index.specs.Reading.{is_index_kind, IsStartAt, IsStartCause}
 use Rattle.e57_index.proofs.Moved.{sort-piece, length-piece, count-piece, level-piece}
 use Rattle.e57_index.proofs.Asked.{told_each}
 
@@ -125,7 +125,7 @@ sound_start s q bytes low none =
     let some = eqb-false (entry_count_at bytes 0) 0 c.0 in
     record { some = omega (arith, some); few = most; within = omega (arith, room, long, low) }
 
-pub start_sound : (old : SourceView) (s : Section) (offset q : ℕ) (bytes : List ℕ) → place offset ≡ Some q → s.start + 32 ≤ q → q + 16 ≤ s.end → (is_misshapen_start bytes || nat_lt (s.end - q) (length_at bytes 0)) ≡ false
+start_sound : (old : SourceView) (s : Section) (offset q : ℕ) (bytes : List ℕ) → place offset ≡ Some q → s.start + 32 ≤ q → q + 16 ≤ s.end → (is_misshapen_start bytes || nat_lt (s.end - q) (length_at bytes 0)) ≡ false
     → IfSome old.held (λ file. span_fault file q 16 ≡ None) → IfSome old.held (λ file. bytes ≡ take 16 (drop q (logical file))) → IfSome old.held (λ file. index_shape_fault file s (level_at bytes 0) offset ≡ None)
 start_sound old s offset q bytes is low high none right read =
     told_both (λ file. span_fault file q 16 ≡ None) (λ file. bytes ≡ take 16 (drop q (logical file))) (λ file. index_shape_fault file s (level_at bytes 0) offset ≡ None) old.held
@@ -137,8 +137,13 @@ start_sound old s offset q bytes is low high none right read =
     let none : is_misshapen_index (logical file) s (level_at bytes 0) q ≡ false = shape ∙ rw (here, test) refl in
     start_rest file s (level_at bytes 0) offset q is low high sound ∙ ap (λ (t : Bool). when t (fault IndexShape s.node offset)) none) right read
 
-pub start_level : (old : SourceView) (q : ℕ) (bytes : List ℕ) → IfSome old.held (λ file. bytes ≡ take 16 (drop q (logical file))) → IfSome old.held (λ file. level_at (logical file) q ≡ level_at bytes 0)
-start_level old q bytes read = told_map (λ file. bytes ≡ take 16 (drop q (logical file))) (λ file. level_at (logical file) q ≡ level_at bytes 0) old.held (λ file was. sym (rw was (level-piece (logical file) q 16 (lit≤ tt)))) read
-
-pub start_count : (old : SourceView) (q : ℕ) (bytes : List ℕ) → IfSome old.held (λ file. bytes ≡ take 16 (drop q (logical file))) → IfSome old.held (λ file. entry_count_at (logical file) q ≡ entry_count_at bytes 0)
-start_count old q bytes read = told_map (λ file. bytes ≡ take 16 (drop q (logical file))) (λ file. entry_count_at (logical file) q ≡ entry_count_at bytes 0) old.held (λ file was. sym (rw was (count-piece (logical file) q 16 (lit≤ tt)))) read
+pub start_is : (old : SourceView) (s : Section) (offset q : ℕ) (bytes : List ℕ) → place offset ≡ Some q → s.start + 32 ≤ q → q + 16 ≤ s.end → (is_misshapen_start bytes || nat_lt (s.end - q) (length_at bytes 0)) ≡ false
+    → IfSome old.held (λ file. span_fault file q 16 ≡ None) → IfSome old.held (λ file. bytes ≡ take 16 (drop q (logical file))) → IfSome old.held (λ file. IsStartAt file s offset (record { place = q; entries = entry_count_at bytes 0; level = level_at bytes 0 }))
+start_is old s offset q bytes is low high none right read =
+    told_both (λ file. index_shape_fault file s (level_at bytes 0) offset ≡ None) (λ file. bytes ≡ take 16 (drop q (logical file))) (λ file. IsStartAt file s offset (record { place = q; entries = entry_count_at bytes 0; level = level_at bytes 0 })) old.held
+    (λ file sound was.
+    record {
+      shape = sound;
+      of_level = sym (rw was (level-piece (logical file) q 16 (lit≤ tt)));
+      counts = sym (rw was (count-piece (logical file) q 16 (lit≤ tt)));
+    }) (start_sound old s offset q bytes is low high none right read) read

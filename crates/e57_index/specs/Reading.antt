@@ -19,6 +19,10 @@ use Rattle.e57_index.specs.declared.start.Start.{Start}
 use Rattle.e57_index.specs.Asking.{AsksMet}
 use Rattle.e57_index.specs.OnePacket.{level_fits, wanted_fault, OnPacket, IsPacketAt}
 
+-- the bytes of the most entries of an index packet
+abbrev pub most_entry_bytes : ℕ
+most_entry_bytes = 32768
+
 -- a kind of fault that is met in an index
 abbrev pub is_index_kind : Kind → Bool
 is_index_kind Page = true
@@ -30,6 +34,12 @@ is_index_kind _ = false
 abbrev pub AsksStart : Section → ℕ → SourceView → SourceView → Type 0
 AsksStart s offset old new = AsksMet s (λ file p. InIndexStart s offset p) old new
 
+-- These are the first 16 bytes of the index packet at this offset, which have no fault.
+pub record IsStartAt (file : List ℕ) (s : Section) (offset : ℕ) (start : Start) : Type 0 where
+  pub shape : index_shape_fault file s start.level offset ≡ None
+  pub of_level : level_at (logical file) start.place ≡ start.level
+  pub counts : entry_count_at (logical file) start.place ≡ start.entries
+
 -- The first 16 bytes of the index packet at this offset were read.
 pub record ReadsStart (old : SourceView) (s : Section) (offset : ℕ) (start : Start) (new : SourceView) : Type 0 where
   pub source : AsksStart s offset old new
@@ -38,9 +48,7 @@ pub record ReadsStart (old : SourceView) (s : Section) (offset : ℕ) (start : S
   pub some : 0 < start.entries
   pub few : start.entries ≤ 2048
   pub within : start.place + 16 + 16 * start.entries ≤ s.end
-  pub shape : IfSome old.held (λ file. index_shape_fault file s start.level offset ≡ None)
-  pub of_level : IfSome old.held (λ file. level_at (logical file) start.place ≡ start.level)
-  pub counts : IfSome old.held (λ file. entry_count_at (logical file) start.place ≡ start.entries)
+  pub is : IfSome old.held (λ file. IsStartAt file s offset start)
 
 -- why they weren't read: their fault, whatever level is wanted, or the source failed
 abbrev pub IsStartCause : SourceView → Section → ℕ → ReadFault → SourceView → Type 0

@@ -11,7 +11,7 @@ use Rattle.e57_layout.specs.declared.section.Section.{Section}
 use Rattle.e57_sections.specs.Met.{InIndexStart, InSpan}
 use Rattle.e57_index.specs.Reading.{AsksStart, IsStartCause}
 use Rattle.e57_index.proofs.Asked.{told_each, asks_met-none, asks_met-span, cut_cause}
-use Rattle.e57_index.proofs.Starts.{no_place, before_data, past_end, wrong_start, misshapen, sound_start, start_sound, start_level, start_count}
+use Rattle.e57_index.proofs.Starts.{no_place, before_data, past_end, wrong_start, misshapen, sound_start, start_is}
 use Rattle.e57_index.proofs.start.read_start.Goals as goal
 
 asks_start : (s : Section) (kept : List ℕ) (offset q : ℕ) (a b : SourceView) → place offset ≡ Some q → s.start + 32 ≤ q → q + 16 ≤ s.end → AsksUnkept kept (q / 1020) (span_end q 16) a b → AsksStart s offset a b
@@ -78,9 +78,7 @@ returns-in-Some-judge_head-clause-start g c =
       some = rw count sound.some;
       few = rw count sound.few;
       within = rw count sound.within;
-      shape = rw level (start_sound old s c.args.offset q bytes (sym c.in-Some.ensures) low high head.0 range.right range.bytes);
-      of_level = rw level (start_level old q bytes range.bytes);
-      counts = rw count (start_count old q bytes range.bytes);
+      is = rw (count, level) (start_is old s c.args.offset q bytes (sym c.in-Some.ensures) low high head.0 range.right range.bytes);
     }
 
 pub returns-in-None-clause-start : goal.returns-in-None-clause-start
