@@ -4,3 +4,4 @@ pub mod Asked
 pub mod Starts
 pub mod Judged
 pub mod Judging
+pub mod Targets

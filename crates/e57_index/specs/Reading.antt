@@ -13,8 +13,8 @@ use Rattle.e57_layout.specs.IndexPackets.{entry_count_at, level_at, entries_at}
 use Rattle.e57_layout.specs.declared.packet.Entry.{Entry}
 use Rattle.e57_layout.specs.declared.packet.IndexHead.{IndexHead}
 use Rattle.e57_layout.specs.declared.section.Section.{Section}
-use Rattle.e57_sections.specs.Index.{begins_and_rises, index_shape_fault}
-use Rattle.e57_sections.specs.Met.{InIndexStart}
+use Rattle.e57_sections.specs.Index.{begins_and_rises, index_shape_fault, target_fault}
+use Rattle.e57_sections.specs.Met.{InIndexStart, InTarget}
 use Rattle.e57_index.specs.declared.start.Start.{Start}
 use Rattle.e57_index.specs.Asking.{AsksMet}
 use Rattle.e57_index.specs.OnePacket.{level_fits, wanted_fault, OnPacket, IsPacketAt}
@@ -76,3 +76,25 @@ IsIndexCause old s wanted e bound Source new = Rose old.faults new.faults
 pub record LosesIndex (old : SourceView) (s : Section) (wanted : Option ℕ) (e : Entry) (bound : ℕ) (found : ReadFault) (new : SourceView) : Type 0 where
   pub source : AsksMet s (OnPacket s wanted e) old new
   pub cause : IsIndexCause old s wanted e bound found new
+
+-- ---- what an entry of height 0 names
+
+abbrev pub AsksTarget : Section → Entry → SourceView → SourceView → Type 0
+AsksTarget s e old new = AsksMet s (λ file p. InTarget s e p) old new
+
+-- The four bytes that the entry names were read. They lie among the data.
+pub record ReadsTarget (old : SourceView) (s : Section) (e : Entry) (q : ℕ) (new : SourceView) : Type 0 where
+  pub source : AsksTarget s e old new
+  pub at : place e.place ≡ Some q
+  pub after : s.data_place ≤ q
+  pub within : q + 4 ≤ s.end
+  pub sound : IfSome old.held (λ file. target_fault file s e ≡ None)
+
+-- why they weren't: their first fault, or the source failed
+abbrev pub IsTargetCause : SourceView → Section → Entry → ReadFault → SourceView → Type 0
+IsTargetCause old s e (Refused found) new = (is_index_kind found.kind ≡ true) × IfSome old.held (λ file. target_fault file s e ≡ Some found)
+IsTargetCause old s e Source new = Rose old.faults new.faults
+
+pub record LosesTarget (old : SourceView) (s : Section) (e : Entry) (found : ReadFault) (new : SourceView) : Type 0 where
+  pub source : AsksTarget s e old new
+  pub cause : IsTargetCause old s e found new

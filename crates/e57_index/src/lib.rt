@@ -4,3 +4,4 @@
 mod entries;
 mod read;
 mod start;
+mod target;
