@@ -5,3 +5,6 @@ pub mod Starts
 pub mod Judged
 pub mod Judging
 pub mod Targets
+pub mod Led
+pub mod Loads
+pub mod Ways
