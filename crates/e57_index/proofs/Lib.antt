@@ -1,0 +1,10 @@
+pub mod Listed
+pub mod Moved
+pub mod Asked
+pub mod Starts
+pub mod Judged
+pub mod Judging
+pub mod Targets
+pub mod Led
+pub mod Loads
+pub mod Ways
