@@ -107,12 +107,7 @@ impl IndexCursor {
     }
 
     /// Judges the packet that is held anew, for the entry that leads to it now. It stays held, refused or not.
-    fn judge_held(
-        &mut self,
-        entry: &Entry,
-        wanted: Option<u8>,
-        bound: u64,
-    ) -> Result<(), ReadFault>
+    fn judge_held(&mut self, entry: &Entry, wanted: Option<u8>, bound: u64) -> Result<(), ReadFault>
         requires holds { holds_place self.old.held entry.now.place ≡ true }
         requires below { bound ≤ self.old.section.count }
         ensures section { self.new.section ≡ self.old.section }
