@@ -9,3 +9,6 @@ mod step;
 
 pub use ahead::Ahead;
 pub use reached::Covered;
+
+#[cfg(test)]
+mod tests;
