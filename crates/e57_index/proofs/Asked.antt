@@ -44,8 +44,8 @@ asks_met-on s met a b c f g =
       asks = asks_for_on f.pages g.pages f.asks g.asks;
       within = each-append (InSection s) f.pages g.pages f.within g.within;
       allowed = told_both (λ file. AllByRecursion (met file) f.pages) (λ file. AllByRecursion (met file) g.pages) (λ file. AllByRecursion (met file) (f.pages ++ g.pages)) a.held
-        (λ file first next. each-append (met file) f.pages g.pages first next) f.allowed
-        (told_here (λ file. AllByRecursion (met file) g.pages) b.held a.held (sym f.asks.same.held) g.allowed);
+          (λ file first next. each-append (met file) f.pages g.pages first next) f.allowed
+          (told_here (λ file. AllByRecursion (met file) g.pages) b.held a.held (sym f.asks.same.held) g.allowed);
     }
 
 -- what is met is met in another way
@@ -56,7 +56,7 @@ asks_met-by s met met' a b by f =
       asks = f.asks;
       within = f.within;
       allowed = told_both (λ file. (p : ℕ) → met file p → met' file p) (λ file. AllByRecursion (met file) f.pages) (λ file. AllByRecursion (met' file) f.pages) a.held
-        (λ file way all. each-map (met file) (met' file) f.pages way all) by f.allowed;
+          (λ file way all. each-map (met file) (met' file) f.pages way all) by f.allowed;
     }
 
 rises-each : (low high : ℕ) (pages : List ℕ) → RisesWithin low high pages → AllByRecursion (λ p. (low ≤ p) × (p < high)) pages

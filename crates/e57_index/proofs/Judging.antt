@@ -51,8 +51,11 @@ pub lost_level : (old new : SourceView) (s : Section) (wanted : Option ℕ) (e :
 lost_level old new s wanted e bound start read other =
     record {
       source = asks_first s wanted e old new read.source;
-      cause = (refl, told_map (λ file. IsStartAt file s e.place start) (λ file. wanted_fault file s wanted e bound ≡ Some (fault IndexShape s.node e.place)) old.held
-        (λ file is. level_fault file s wanted e bound start.level is.shape (rw (known_is e.place start.place read.at) is.of_level) other) read.is);
+      cause = (
+        refl,
+        told_map (λ file. IsStartAt file s e.place start) (λ file. wanted_fault file s wanted e bound ≡ Some (fault IndexShape s.node e.place)) old.held
+            (λ file is. level_fault file s wanted e bound start.level is.shape (rw (known_is e.place start.place read.at) is.of_level) other) read.is,
+      );
     }
 
 -- the pages of the entries are pages of the packet
@@ -62,13 +65,13 @@ asks_next old mid new kept s wanted e start read fits asks =
     let within = read.within in
     asks_met-on s (OnPacket s wanted e) old mid new (asks_first s wanted e old mid read.source)
     (asks_met-span s (OnPacket s wanted e) kept (start.place + 16) (16 * start.entries) mid new (omega (arith, after)) within
-      (told_here (λ file. (p : ℕ) → InSpan (start.place + 16) (16 * start.entries) p → OnPacket s wanted e file p) old.held mid.held read.source.asks.same.held
-        (told_map (λ file. IsStartAt file s e.place start) (λ file. (p : ℕ) → InSpan (start.place + 16) (16 * start.entries) p → OnPacket s wanted e file p) old.held
-          (λ file is p there.
-          let known = known_is e.place start.place read.at in
-          let level = rw (sym known) at is.of_level in
-          let counts = rw (sym known) at is.counts in
-          inr (start_none file s wanted e start.level is.shape level fits, (rw (level_is file wanted e start.level level fits) is.shape, rw (counts, known) there))) read.is)) asks)
+    (told_here (λ file. (p : ℕ) → InSpan (start.place + 16) (16 * start.entries) p → OnPacket s wanted e file p) old.held mid.held read.source.asks.same.held
+    (told_map (λ file. IsStartAt file s e.place start) (λ file. (p : ℕ) → InSpan (start.place + 16) (16 * start.entries) p → OnPacket s wanted e file p) old.held
+    (λ file is p there.
+    let known = known_is e.place start.place read.at in
+    let level = rw (sym known) at is.of_level in
+    let counts = rw (sym known) at is.counts in
+    inr (start_none file s wanted e start.level is.shape level fits, (rw (level_is file wanted e start.level level fits) is.shape, rw (counts, known) there))) read.is)) asks)
 
 -- a page of its entries is wrong, or the source failed
 pub lost_entries : (old mid new : SourceView) (kept : List ℕ) (s : Section) (wanted : Option ℕ) (e : Entry) (bound : ℕ) (start : Start) (found : ReadFault) → ReadsStart old s e.place start mid → level_fits wanted start.level ≡ true → AsksUnkept kept ((start.place + 16) / 1020) (span_end (start.place + 16) (16 * start.entries)) mid new
@@ -76,13 +79,16 @@ pub lost_entries : (old mid new : SourceView) (kept : List ℕ) (s : Section) (w
 lost_entries old mid new kept s wanted e bound start (Refused found) read fits asks cause =
     record {
       source = asks_next old mid new kept s wanted e start read fits asks;
-      cause = (rw cause.0 refl, told_both (λ file. IsStartAt file s e.place start) (λ file. span_fault file (start.place + 16) (16 * start.entries) ≡ Some found) (λ file. wanted_fault file s wanted e bound ≡ Some found) old.held
-        (λ file is wrong.
-        let known = known_is e.place start.place read.at in
-        let level = rw (sym known) at is.of_level in
-        let counts = rw (sym known) at is.counts in
-        late_fault file s wanted e bound start.level found is.shape level fits (rw (counts, known) wrong)) read.is
-        (told_here (λ file. span_fault file (start.place + 16) (16 * start.entries) ≡ Some found) mid.held old.held (sym read.source.asks.same.held) cause.1));
+      cause = (
+        rw cause.0 refl,
+        told_both (λ file. IsStartAt file s e.place start) (λ file. span_fault file (start.place + 16) (16 * start.entries) ≡ Some found) (λ file. wanted_fault file s wanted e bound ≡ Some found) old.held
+            (λ file is wrong.
+            let known = known_is e.place start.place read.at in
+            let level = rw (sym known) at is.of_level in
+            let counts = rw (sym known) at is.counts in
+            late_fault file s wanted e bound start.level found is.shape level fits (rw (counts, known) wrong)) read.is
+            (told_here (λ file. span_fault file (start.place + 16) (16 * start.entries) ≡ Some found) mid.held old.held (sym read.source.asks.same.held) cause.1),
+      );
     }
 lost_entries old mid new kept s wanted e bound start Source read fits asks cause =
     record { source = asks_next old mid new kept s wanted e start read fits asks; cause = rose_before old.faults mid.faults new.faults read.source.asks.faults cause }
@@ -97,7 +103,7 @@ packet_is : (old mid : SourceView) (s : Section) (e : Entry) (start : Start) (by
     → IfSome old.held (λ file. IsPacketAt file s e.place start.level (entries_at bytes 0 start.entries))
 packet_is old mid s e start bytes read right was =
     let both = told_both (λ file. span_fault file (start.place + 16) (16 * start.entries) ≡ None) (λ file. bytes ≡ take (16 * start.entries) (drop (start.place + 16) (logical file)))
-      (λ file. (span_fault file (start.place + 16) (16 * start.entries) ≡ None) × (bytes ≡ take (16 * start.entries) (drop (start.place + 16) (logical file)))) mid.held (λ file a b. (a, b)) right was in
+    (λ file. (span_fault file (start.place + 16) (16 * start.entries) ≡ None) × (bytes ≡ take (16 * start.entries) (drop (start.place + 16) (logical file)))) mid.held (λ file a b. (a, b)) right was in
     told_both (λ file. IsStartAt file s e.place start) (λ file. (span_fault file (start.place + 16) (16 * start.entries) ≡ None) × (bytes ≡ take (16 * start.entries) (drop (start.place + 16) (logical file))))
     (λ file. IsPacketAt file s e.place start.level (entries_at bytes 0 start.entries)) old.held
     (λ file is (sound, got).
@@ -119,8 +125,11 @@ pub lost_order : (old mid new : SourceView) (kept : List ℕ) (s : Section) (wan
 lost_order old mid new kept s wanted e bound start bytes read fits asks right was wrong =
     record {
       source = asks_next old mid new kept s wanted e start read fits asks;
-      cause = (refl, told_map (λ file. IsPacketAt file s e.place start.level (entries_at bytes 0 start.entries)) (λ file. wanted_fault file s wanted e bound ≡ Some (fault IndexOrder s.node e.place)) old.held
-        (λ file is. order_fault file s wanted e bound start.level (entries_at bytes 0 start.entries) is fits wrong) (packet_is old mid s e start bytes read right was));
+      cause = (
+        refl,
+        told_map (λ file. IsPacketAt file s e.place start.level (entries_at bytes 0 start.entries)) (λ file. wanted_fault file s wanted e bound ≡ Some (fault IndexOrder s.node e.place)) old.held
+            (λ file is. order_fault file s wanted e bound start.level (entries_at bytes 0 start.entries) is fits wrong) (packet_is old mid s e start bytes read right was),
+      );
     }
 
 -- it was read

@@ -61,8 +61,11 @@ pub lost_level_held : (old : SourceView) (before : Cursor) (h : HeldPacket) (wan
 lost_level_held old before h wanted e bound is same other =
     record {
       source = asks_met-none before.section (OnPacket before.section wanted e) old;
-      cause = (refl, told_each (λ file. StandsIn file before → wanted_fault file before.section wanted e bound ≡ Some (fault IndexShape before.section.node e.place)) old.held
-        (λ file stands. let at = held_is file before h e is same stands in level_fault file before.section wanted e bound h.level at.shape at.of_level other));
+      cause = (
+        refl,
+        told_each (λ file. StandsIn file before → wanted_fault file before.section wanted e bound ≡ Some (fault IndexShape before.section.node e.place)) old.held
+            (λ file stands. let at = held_is file before h e is same stands in level_fault file before.section wanted e bound h.level at.shape at.of_level other),
+      );
       kept = λ file stands. stands;
     }
 
@@ -70,8 +73,11 @@ pub lost_order_held : (old : SourceView) (before : Cursor) (h : HeldPacket) (wan
 lost_order_held old before h wanted e bound is same fits wrong =
     record {
       source = asks_met-none before.section (OnPacket before.section wanted e) old;
-      cause = (refl, told_each (λ file. StandsIn file before → wanted_fault file before.section wanted e bound ≡ Some (fault IndexOrder before.section.node e.place)) old.held
-        (λ file stands. order_fault file before.section wanted e bound h.level h.entries (held_is file before h e is same stands) fits wrong));
+      cause = (
+        refl,
+        told_each (λ file. StandsIn file before → wanted_fault file before.section wanted e bound ≡ Some (fault IndexOrder before.section.node e.place)) old.held
+            (λ file stands. order_fault file before.section wanted e bound h.level h.entries (held_is file before h e is same stands) fits wrong),
+      );
       kept = λ file stands. stands;
     }
 

@@ -97,13 +97,15 @@ start_rest file s level offset q is low high right =
 
 pub misshapen : (old new : SourceView) (s : Section) (offset q : ℕ) (bytes : List ℕ) → place offset ≡ Some q → s.start + 32 ≤ q → q + 16 ≤ s.end → (is_misshapen_start bytes || nat_lt (s.end - q) (length_at bytes 0)) ≡ true
     → IfSome old.held (λ file. span_fault file q 16 ≡ None) → IfSome old.held (λ file. bytes ≡ take 16 (drop q (logical file))) → IsStartCause old s offset (Refused (fault IndexShape s.node offset)) new
-misshapen old new s offset q bytes is low high wrong right read =
-    (refl, told_both (λ file. span_fault file q 16 ≡ None) (λ file. bytes ≡ take 16 (drop q (logical file))) (λ file. (level : ℕ) → index_shape_fault file s level offset ≡ Some (fault IndexShape s.node offset)) old.held
+misshapen old new s offset q bytes is low high wrong right read = (
+  refl,
+  told_both (λ file. span_fault file q 16 ≡ None) (λ file. bytes ≡ take 16 (drop q (logical file))) (λ file. (level : ℕ) → index_shape_fault file s level offset ≡ Some (fault IndexShape s.node offset)) old.held
       (λ file sound was level.
       let here = subst (λ (b : List ℕ). (is_misshapen_start b || nat_lt (s.end - q) (length_at b 0)) ≡ true) was wrong in
       let shape = shape_is (logical file) s level q (omega (arith, high)) in
       let all = or_left (is_misshapen_start (take 16 (drop q (logical file))) || nat_lt (s.end - q) (length_at (take 16 (drop q (logical file))) 0)) (not (level_at (logical file) q == level)) here in
-      start_rest file s level offset q is low high sound ∙ ap (λ (t : Bool). when t (fault IndexShape s.node offset)) (shape ∙ all)) right read)
+      start_rest file s level offset q is low high sound ∙ ap (λ (t : Bool). when t (fault IndexShape s.node offset)) (shape ∙ all)) right read,
+)
 
 -- what a sound start has
 pub record IsSoundStart (s : Section) (q count : ℕ) : Type 0 where

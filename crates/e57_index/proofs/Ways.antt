@@ -138,10 +138,12 @@ steps_later old mid new a b c i same first keeps next =
     record { source = asks_later old mid new a b i same first keeps next.source; stands = keeps_later old mid a b c first.asks.same.held keeps next.stands; has = next.has }
 
 cause_later : (old mid new : SourceView) (a b : Cursor) (i : ℕ) (found : ReadFault) → b.section ≡ a.section → AsksWay a i old mid → KeepsStanding old a b → IsWayCause mid b i found new → IsWayCause old a i found new
-cause_later old mid new a b i (Refused found) same first keeps cause =
-    (cause.0, told_both (λ file. StandsIn file a → StandsIn file b) (λ file. StandsIn file b → path file b.section i ≡ Err found) (λ file. StandsIn file a → path file a.section i ≡ Err found) old.held
+cause_later old mid new a b i (Refused found) same first keeps cause = (
+  cause.0,
+  told_both (λ file. StandsIn file a → StandsIn file b) (λ file. StandsIn file b → path file b.section i ≡ Err found) (λ file. StandsIn file a → path file a.section i ≡ Err found) old.held
       (λ file keep is stands. rw same at (is (keep stands))) keeps
-      (told_here (λ file. StandsIn file b → path file b.section i ≡ Err found) mid.held old.held (sym first.asks.same.held) cause.1))
+      (told_here (λ file. StandsIn file b → path file b.section i ≡ Err found) mid.held old.held (sym first.asks.same.held) cause.1),
+)
 cause_later old mid new a b i Source same first keeps cause = rose_before old.faults mid.faults new.faults first.asks.faults cause
 
 pub lost_later : (old mid new : SourceView) (a b c : Cursor) (i : ℕ) (found : ReadFault) → b.section ≡ a.section → AsksWay a i old mid → KeepsStanding old a b → LosesChunk mid b i found new c → LosesChunk old a i found new c
@@ -163,8 +165,8 @@ found_later old mid new a b c i f same first keeps next =
       within = rw same at next.within;
       stands = keeps_later old mid a b c first.asks.same.held keeps next.stands;
       is = told_both (λ file. StandsIn file a → StandsIn file b) (λ file. StandsIn file b → (j : ℕ) → f.start ≤ j → j < f.until → path file b.section j ≡ Ok (chunk_of f)) (λ file. StandsIn file a → (j : ℕ) → f.start ≤ j → j < f.until → path file a.section j ≡ Ok (chunk_of f)) old.held
-        (λ file keep is stands j low high. rw same at (is (keep stands) j low high)) keeps
-        (told_here (λ file. StandsIn file b → (j : ℕ) → f.start ≤ j → j < f.until → path file b.section j ≡ Ok (chunk_of f)) mid.held old.held (sym first.asks.same.held) next.is);
+          (λ file keep is stands j low high. rw same at (is (keep stands) j low high)) keeps
+          (told_here (λ file. StandsIn file b → (j : ℕ) → f.start ≤ j → j < f.until → path file b.section j ≡ Ok (chunk_of f)) mid.held old.held (sym first.asks.same.held) next.is);
     }
 
 -- ---- the chunk
@@ -192,15 +194,18 @@ found_chunk old new c h i x ends q is leaf up picked most read =
       within = read.within;
       stands = told_each (λ file. StandsIn file c → StandsIn file c) old.held (λ file stands. stands);
       is = told_map (λ file. target_fault file c.section x ≡ None) (λ file. StandsIn file c → (j : ℕ) → x.first ≤ j → j < ends → path file c.section j ≡ Ok (record { first = x.first; until = ends; place = q })) old.held
-        (λ file none stands j low high. rw (known_is x.place q read.at) at (target_found file c.section x ends j (leaf_led file c h x ends is leaf up picked.has stands j low high) none)) read.sound;
+          (λ file none stands j low high. rw (known_is x.place q read.at) at (target_found file c.section x ends j (leaf_led file c h x ends is leaf up picked.has stands j low high) none)) read.sound;
     }
 
 pub lost_chunk : (old new : SourceView) (c : Cursor) (h : HeldPacket) (i : ℕ) (x : Entry) (ends : ℕ) (found : ReadFault) → c.held ≡ Some h → h.level ≡ 0 → begins_and_rises h.first h.bound h.entries ≡ true → IsPicked h.bound h.entries i x ends → LosesTarget old c.section x found new → LosesChunk old c i found new c
 lost_chunk old new c h i x ends (Refused found) is leaf up picked lost =
     record {
       source = asks_leaf old new c h i x ends is leaf up picked lost.source;
-      cause = (lost.cause.0, told_map (λ file. target_fault file c.section x ≡ Some found) (λ file. StandsIn file c → path file c.section i ≡ Err found) old.held
-        (λ file wrong stands. target_lost file c.section x ends i found (leaf_led file c h x ends is leaf up picked.has stands i picked.low picked.high) wrong) lost.cause.1);
+      cause = (
+        lost.cause.0,
+        told_map (λ file. target_fault file c.section x ≡ Some found) (λ file. StandsIn file c → path file c.section i ≡ Err found) old.held
+            (λ file wrong stands. target_lost file c.section x ends i found (leaf_led file c h x ends is leaf up picked.has stands i picked.low picked.high) wrong) lost.cause.1,
+      );
       stands = told_each (λ file. StandsIn file c → StandsIn file c) old.held (λ file stands. stands);
     }
 lost_chunk old new c h i x ends Source is leaf up picked lost =

@@ -59,7 +59,7 @@ impl Model for IndexCursor {
 impl IndexCursor {
     /// A cursor for a section that has an index. It takes the bytes of one index packet's entries, and nothing takes more
     /// later.
-    pub fn new(alloc: Global, section: &Section) -> Result<IndexCursor, AllocError>
+    pub fn open(alloc: Global, section: &Section) -> Result<IndexCursor, AllocError>
         requires { section.now.index ≢ 0 }
         ensures { IfOk result (λ cursor. cursor ≡ record { section = section.now; held = None }) }
     {
@@ -107,12 +107,7 @@ impl IndexCursor {
     }
 
     /// Judges the packet that is held anew, for the entry that leads to it now. It stays held, refused or not.
-    fn judge_held(
-        &mut self,
-        entry: &Entry,
-        wanted: Option<u8>,
-        bound: u64,
-    ) -> Result<(), ReadFault>
+    fn judge_held(&mut self, entry: &Entry, wanted: Option<u8>, bound: u64) -> Result<(), ReadFault>
         requires holds { holds_place self.old.held entry.now.place ≡ true }
         requires below { bound ≤ self.old.section.count }
         ensures section { self.new.section ≡ self.old.section }

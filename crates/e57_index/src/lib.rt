@@ -1,7 +1,6 @@
 //! The index of a cloud's section (ASTM E2807, index packets), read from the pages of a file.
 #![tactic(auto)]
 
-
 mod cursor;
 mod entries;
 mod held;
