@@ -59,7 +59,7 @@ impl Model for IndexCursor {
 impl IndexCursor {
     /// A cursor for a section that has an index. It takes the bytes of one index packet's entries, and nothing takes more
     /// later.
-    pub fn new(alloc: Global, section: &Section) -> Result<IndexCursor, AllocError>
+    pub fn open(alloc: Global, section: &Section) -> Result<IndexCursor, AllocError>
         requires { section.now.index ≢ 0 }
         ensures { IfOk result (λ cursor. cursor ≡ record { section = section.now; held = None }) }
     {
