@@ -12,3 +12,6 @@ pub mod Reached
 pub mod Items
 pub mod Refusals
 pub mod Sections
+pub mod Fronts
+pub mod Covers
+pub mod Found

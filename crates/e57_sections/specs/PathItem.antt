@@ -96,10 +96,14 @@ cover file s fixed i (suc fuel) first q =
     covered s i first q (float_items (Some fixed) (stretch file s q).packets) (stretch file s q)
     (λ next. cover file s fixed i fuel (first + float_items (Some fixed) (stretch file s q).packets) next)
 
+-- the same, with fuel that is enough
+abbrev pub cover_from : List ℕ → Section → Fixed → ℕ → ℕ → ℕ → Result ChunkAt Fault
+cover_from file s fixed i first q = cover file s fixed i (s.end - q) first q
+
 -- the chunk of record i of a section whose first Float field is this one
 unfoldable pub chunk_at : List ℕ → Section → Option Fixed → ℕ → Result ChunkAt Fault
 chunk_at file s None i = path file s i
-chunk_at file s (Some fixed) i = if s.index == 0 then cover file s fixed i (s.end - s.data_place) 0 s.data_place else path file s i
+chunk_at file s (Some fixed) i = if s.index == 0 then cover_from file s fixed i 0 s.data_place else path file s i
 
 -- ---- the item
 

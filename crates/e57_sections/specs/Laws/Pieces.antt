@@ -12,36 +12,36 @@ use Rattle.e57_sections.specs.PathItem.{stretch_of, stretch}
 use Rattle.e57_sections.specs.Laws.Walks.{walk_from-stands, IsWalk, walk_from-of, length_at-some}
 use Rattle.e57_sections.specs.Laws.Chunks.{cut-restart}
 
-data-yes : (p : Packet) (ps : List Packet) → p.is_data ≡ true → data_packets (p ∷ ps) ≡ p ∷ data_packets ps
+pub data-yes : (p : Packet) (ps : List Packet) → p.is_data ≡ true → data_packets (p ∷ ps) ≡ p ∷ data_packets ps
 unfolding data_packets
 data-yes p ps is = cond-true p.is_data (p ∷ data_packets ps) (data_packets ps) is
 
-data-other : (p : Packet) (ps : List Packet) → p.is_data ≡ false → data_packets (p ∷ ps) ≡ data_packets ps
+pub data-other : (p : Packet) (ps : List Packet) → p.is_data ≡ false → data_packets (p ∷ ps) ≡ data_packets ps
 unfolding data_packets
 data-other p ps other = cond-false p.is_data (p ∷ data_packets ps) (data_packets ps) other
 
-cut-on : (p : Packet) (ps : List Packet) → p.restart ≡ false → cut (p ∷ ps) ≡ onto_first p (cut ps)
+pub cut-on : (p : Packet) (ps : List Packet) → p.restart ≡ false → cut (p ∷ ps) ≡ onto_first p (cut ps)
 unfolding cut
 cut-on p ps on = cond-false p.restart ([] ∷ onto_first p (cut ps)) (onto_first p (cut ps)) on
 
-by_chunk-is : (p : Packet) (ps : List Packet) → by_chunk (p ∷ ps) ≡ onto_first p (cut ps)
+pub by_chunk-is : (p : Packet) (ps : List Packet) → by_chunk (p ∷ ps) ≡ onto_first p (cut ps)
 unfolding by_chunk
 by_chunk-is p ps = refl
 
-by_chunk-none : by_chunk [] ≡ [] ∷ []
+pub by_chunk-none : by_chunk [] ≡ [] ∷ []
 unfolding by_chunk
 by_chunk-none = refl
 
-cut-none : cut [] ≡ [] ∷ []
+pub cut-none : cut [] ≡ [] ∷ []
 unfolding cut
 cut-none = refl
 
-data-none : data_packets [] ≡ []
+pub data-none : data_packets [] ≡ []
 unfolding data_packets
 data-none = refl
 
 -- the place of the first packet of the first piece
-start_of_first : List (List Packet) → ℕ
+unfoldable pub start_of_first : List (List Packet) → ℕ
 start_of_first [] = 0
 start_of_first (piece ∷ pieces) = start_of piece
 
@@ -49,7 +49,7 @@ length_of_first : List (List Packet) → ℕ
 length_of_first [] = 0
 length_of_first (piece ∷ pieces) = length piece
 
-onto-start : (p : Packet) (pieces : List (List Packet)) → start_of_first (onto_first p pieces) ≡ p.place
+pub onto-start : (p : Packet) (pieces : List (List Packet)) → start_of_first (onto_first p pieces) ≡ p.place
 unfolding start_of_first
 onto-start p [] = refl
 onto-start p (piece ∷ pieces) = refl
@@ -59,11 +59,11 @@ unfolding length_of_first
 onto-length p [] = omega arith
 onto-length p (piece ∷ pieces) = omega arith
 
-onto-rest : (p : Packet) (pieces : List (List Packet)) (front next : List Packet) (more : List (List Packet)) → onto_first p pieces ≡ front ∷ next ∷ more → (piece : List Packet) × (pieces ≡ piece ∷ next ∷ more)
+pub onto-rest : (p : Packet) (pieces : List (List Packet)) (front next : List Packet) (more : List (List Packet)) → onto_first p pieces ≡ front ∷ next ∷ more → (piece : List Packet) × (pieces ≡ piece ∷ next ∷ more)
 onto-rest p [] front next more is = absurd (let count : 1 ≡ suc (suc (length more)) = ap (λ (all : List (List Packet)). length all) is in omega arith)
 onto-rest p (piece ∷ pieces) front next more is = (piece, ap (λ (all : List (List Packet)). piece ∷ drop 1 all) is)
 
-packet-place : (b : List ℕ) (q : ℕ) → (packet_at b q).place ≡ q
+pub packet-place : (b : List ℕ) (q : ℕ) → (packet_at b q).place ≡ q
 unfolding packet_at
 packet-place b q = refl
 

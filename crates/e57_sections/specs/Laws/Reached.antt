@@ -159,7 +159,7 @@ goes_on-from s fixed first chunk next more sound =
     record { some = parts.0; left = ltb-true (first + float_items fixed chunk) s.count (not-false (nat_lt (first + float_items fixed chunk) s.count) parts.1); rest = rw good at sound })
     (cases_Bool (float_items fixed chunk == 0 || not (nat_lt (first + float_items fixed chunk) s.count)))
 
-cover-last : (file : List ℕ) (s : Section) (fixed : Fixed) (i fuel first q : ℕ) (chunk : List Packet) → stretch file s q ≡ record { packets = chunk; fault = None; next = None } → cover file s fixed i fuel first q ≡ Ok (record { first = first; until = s.count; place = q })
+pub cover-last : (file : List ℕ) (s : Section) (fixed : Fixed) (i fuel first q : ℕ) (chunk : List Packet) → stretch file s q ≡ record { packets = chunk; fault = None; next = None } → cover file s fixed i fuel first q ≡ Ok (record { first = first; until = s.count; place = q })
 unfolding cover
 cover-last file s fixed i zero first q chunk walked = refl
 cover-last file s fixed i (suc fuel) first q chunk walked =

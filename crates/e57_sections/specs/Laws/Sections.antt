@@ -19,7 +19,7 @@ pub record Lies (size : ℕ) (s : Section) : Type 0 where
   pub data_inside : s.data_place ≤ s.end
   pub inside : s.end ≤ size
 
-when-false : (test : Bool) (found : Fault) → when test found ≡ None → test ≡ false
+pub when-false : (test : Bool) (found : Fault) → when test found ≡ None → test ≡ false
 when-false true found none = cc
 when-false false found none = refl
 
