@@ -1,0 +1,4 @@
+pub mod Window
+pub mod Asking
+pub mod Standing
+pub mod Taking

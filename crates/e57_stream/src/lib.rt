@@ -1,0 +1,13 @@
+//! The stream of one field over the packets of one chunk (ASTM E2807, data packets and bytestreams), read packet by packet
+//! into buffers that the caller lends.
+#![tactic(auto)]
+
+mod bytestream;
+mod chunk;
+mod taking;
+mod window;
+
+pub use bytestream::{Bytestream, Integers, Stopped};
+pub use chunk::{Chunk, let_go};
+pub use taking::take_packet;
+pub use window::Window;
