@@ -3,3 +3,7 @@ pub mod Opening
 pub mod Streams
 pub mod Steps
 pub mod Loading
+pub mod Walking
+pub mod WalkingLaws
+pub mod AskingLaws
+pub mod StretchLaws

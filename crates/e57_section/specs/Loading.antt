@@ -1,5 +1,5 @@
 -- What `load_packet` answers, and what it does to the source and the buffer.
-use Rattle.std.specs.Prelude.{◌≡◌, ℕ, ◌+◌, ◌%◌, ◌≤◌, Bool, true, List, length, Option, Some, None, IfSome, IsSomeAnd}
+use Rattle.std.specs.Prelude.{◌≡◌, ℕ, ◌+◌, ◌%◌, ◌≤◌, Bool, true, false, List, [], length, Option, Some, None, IfSome, IsSomeAnd}
 use Rattle.e57_base.specs.Count.{Rose}
 use Rattle.e57_base.specs.Source.{SourceView}
 use Rattle.e57_base.specs.declared.fault.ReadFault.{ReadFault}
@@ -7,7 +7,7 @@ use Rattle.e57_base.specs.declared.fault.ReadFault.TheVariants.{Refused, Source}
 use Rattle.e57_page.specs.File.{logical}
 use Rattle.e57_layout.specs.declared.section.Section.{Section}
 use Rattle.e57_layout.specs.Packets.{sort_at, restart_at, length_at, streams_of, data_size}
-use Rattle.e57_sections.specs.Walk.{packet_fault}
+use Rattle.e57_sections.specs.Walk.{Packet, packet_fault}
 use Rattle.e57_sections.specs.Met.{needed_at}
 use Rattle.e57_section.specs.declared.load.Loaded.{Loaded}
 use Rattle.e57_section.specs.declared.load.Loaded.TheVariants.{Stream, Index, Empty}
@@ -37,6 +37,13 @@ abbrev pub IsLoaded : List ℕ → ℕ → Loaded → Option (List (List ℕ)) �
 IsLoaded b q (Stream n restart) held = (sort_at b q ≡ 1) × (n ≡ length_at b q) × (restart ≡ restart_at b q) × (held ≡ Some (streams_of b q))
 IsLoaded b q (Index n) held = (sort_at b q ≡ 0) × (n ≡ length_at b q) × (held ≡ None)
 IsLoaded b q (Empty n) held = (sort_at b q ≡ 2) × (n ≡ length_at b q) × (held ≡ None)
+
+-- The same as a packet of a walk. A data packet's streams are held, so the case without them doesn't come.
+abbrev pub loaded_as : ℕ → Loaded → Option (List (List ℕ)) → Packet
+loaded_as q (Stream n restart) None = record { place = q; length = n; is_data = true; restart = restart; streams = [] }
+loaded_as q (Stream n restart) (Some streams) = record { place = q; length = n; is_data = true; restart = restart; streams = streams }
+loaded_as q (Index n) held = record { place = q; length = n; is_data = false; restart = false; streams = [] }
+loaded_as q (Empty n) held = record { place = q; length = n; is_data = false; restart = false; streams = [] }
 
 -- The packet at place q was loaded. Pages of the bytes that it needs alone were asked for.
 pub record LoadsPacket (old : SourceView) (kept : List ℕ) (s : Section) (q : ℕ) (answer : Loaded) (held : Option (List (List ℕ))) (new : SourceView) (now : List ℕ) : Type 0 where
