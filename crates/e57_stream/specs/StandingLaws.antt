@@ -1,7 +1,7 @@
 -- Laws of where a reader stands in a chunk: one packet more, and how the chunk ends.
 use Rattle.std.specs.Prelude.{◌≡◌, ℕ, zero, suc, ◌+◌, ◌-◌, ◌*◌, ◌<◌, ◌≤◌, ◌==◌, ◌&&◌, ◌⊎◌, Bool, true, false, if◌then◌else◌, List, [], ◌∷◌, ◌++◌, length, get_or, Option, Some, None, is_none, Err}
 use Rattle.std.specs.List.{onto_first}
-use Rattle.std.proofs.Common.{refl, sym, subst, ap, ◌∙◌, arith, ⊎_elim, append-nil, append_assoc}
+use Rattle.std.proofs.Common.{refl, sym, subst, ap, ◌∙◌, arith, inl, inr, ⊎_elim, append-nil, append_assoc}
 use Rattle.std.proofs.lemmas.Bool.{cases_Bool}
 use Rattle.e57_base.specs.declared.fault.Fault.{Fault}
 use Rattle.e57_base.specs.Fault.{fault}
@@ -13,7 +13,7 @@ use Rattle.e57_sections.specs.Walk.{Packet, packet_at, packet_fault, Walk, walk_
 use Rattle.e57_sections.specs.Chunks.{data_packets, stream_of, cut, by_chunk}
 use Rattle.e57_sections.specs.PathItem.{Stretch, stretch_of, stretch, or_short}
 use Rattle.e57_sections.specs.Laws.Chunks.{data-append, cut-restart}
-use Rattle.e57_sections.specs.Laws.Pieces.{data-yes, data-other, cut-on, by_chunk-is, data-none}
+use Rattle.e57_sections.specs.Laws.Pieces.{data-yes, data-other, cut-on, cut-none, by_chunk-is, data-none}
 use Rattle.e57_sections.specs.Laws.Fronts.{IsFront, front-more, front-walk, stretch-end, stretch-fault, stretch-next, first-one, same-one, stream_of-append}
 use Rattle.e57_stream.specs.declared.bytestream.Bytestream.{Bytestream}
 use Rattle.e57_stream.specs.Standing.{IsFresh, HasTaken}
@@ -113,12 +113,11 @@ length-onto p [] one some = absurd (omega arith)
 length-onto p (piece ∷ pieces) one some = one
 
 cut_some : (ps : List Packet) → 0 < length (cut ps)
-unfolding cut
-cut_some [] = omega arith
+cut_some [] = rw cut-none (omega arith)
 cut_some (p ∷ ps) =
     ⊎_elim
-    (λ (restart : p.restart ≡ true). rw restart (omega arith))
-    (λ (same : p.restart ≡ false). rw same (onto_some p (cut ps)))
+    (λ (restart : p.restart ≡ true). rw (cut-restart p ps restart) (omega arith))
+    (λ (same : p.restart ≡ false). rw (cut-on p ps same) (onto_some p (cut ps)))
     (cases_Bool p.restart)
 
 cut_front : (ps qs : List Packet) → length (cut ps) ≡ 1 → (more : List Packet) × (first_piece (cut (ps ++ qs)) ≡ ps ++ more)

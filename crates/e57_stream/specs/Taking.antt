@@ -1,5 +1,5 @@
 -- What taking a packet of a chunk does.
-use Rattle.std.specs.Prelude.{◌≡◌, ℕ, ◌+◌, ◌≤◌, ◌==◌, ◌&&◌, Bool, true, false, if◌then◌else◌, List, [], ◌++◌, Option, Some, None, is_none, Err, IfSome}
+use Rattle.std.specs.Prelude.{◌≡◌, ℕ, ◌+◌, ◌≤◌, ◌==◌, ◌&&◌, ◌||◌, Bool, true, false, if◌then◌else◌, List, [], ◌++◌, Option, Some, None, is_none, Err, IfSome}
 use Rattle.e57_base.specs.Count.{Rose}
 use Rattle.e57_base.specs.Fault.{fault}
 use Rattle.e57_base.specs.Source.{SourceView}
@@ -7,10 +7,11 @@ use Rattle.e57_base.specs.declared.fault.Fault.{Fault}
 use Rattle.e57_base.specs.declared.fault.ReadFault.{ReadFault}
 use Rattle.e57_base.specs.declared.fault.ReadFault.TheVariants.{Refused, Source}
 use Rattle.e57_base.specs.declared.kind.Kind.{Kind}
-use Rattle.e57_base.specs.declared.kind.Kind.TheVariants.{Page, PacketType, PacketLength, DataShape, StreamShort, RestartUnindexed}
+use Rattle.e57_base.specs.declared.kind.Kind.TheVariants.{StreamShort, RestartUnindexed}
 use Rattle.e57_sections.specs.Chunks.{stream_of}
 use Rattle.e57_sections.specs.Met.{InSpan, needed_at}
 use Rattle.e57_sections.specs.PathItem.{stretch, ended_by, or_short}
+use Rattle.e57_section.specs.Steps.{is_packet_kind}
 use Rattle.e57_stream.specs.declared.bytestream.Bytestream.{Bytestream}
 use Rattle.e57_stream.specs.declared.chunk.Chunk.{Chunk}
 use Rattle.e57_stream.specs.Asking.{AsksMet, AsksNear}
@@ -24,15 +25,15 @@ short_at b at = fault StreamShort at b.node
 abbrev pub restart_at_place : Bytestream → ℕ → ℕ → Fault
 restart_at_place b at place = if b.section.index == 0 && is_none b.fixed then fault RestartUnindexed b.section.node place else short_at b at
 
--- a kind of fault that ends a walk, or that a stream has which is too short
+-- a kind of fault of a stream that is too short
+abbrev pub is_short_kind : Kind → Bool
+is_short_kind StreamShort = true
+is_short_kind RestartUnindexed = true
+is_short_kind _ = false
+
+-- a kind of fault that ends a walk, or of a stream that is too short
 abbrev pub is_walk_kind : Kind → Bool
-is_walk_kind Page = true
-is_walk_kind PacketType = true
-is_walk_kind PacketLength = true
-is_walk_kind DataShape = true
-is_walk_kind StreamShort = true
-is_walk_kind RestartUnindexed = true
-is_walk_kind _ = false
+is_walk_kind kind = is_packet_kind kind || is_short_kind kind
 
 -- chunk, record and place in the window are the same
 pub record SamePlace (before after : Chunk) : Type 0 where
@@ -42,9 +43,9 @@ pub record SamePlace (before after : Chunk) : Type 0 where
   pub at : after.at ≡ before.at
   pub bit : after.bit ≡ before.bit
 
--- a page of the packet behind those that were taken
+-- a page of the packet behind those that were taken, if one follows
 abbrev pub InNext : Bytestream → Chunk → List ℕ → ℕ → Type 0
-InNext b chunk file p = InSpan chunk.taken (needed_at file b.section chunk.taken) p
+InNext b chunk file p = (chunk.taken + 4 ≤ b.section.end) × InSpan chunk.taken (needed_at file b.section chunk.taken) p
 
 -- A packet was taken. Each front that was reached before is reached after.
 pub record TakesPacket (old : SourceView) (b : Bytestream) (before after : Chunk) (new : SourceView) : Type 0 where

@@ -41,8 +41,9 @@ pub fn take_packet<S: Source>(
         (λ found. TakesNone (S.view pages.old.source) stream.now chunk.old found chunk.new (S.view pages.new.source)) }
 {
     let section = stream.section;
+    let end = section.end;
     let taken = chunk.taken;
-    if section.end - taken < PACKET_HEAD {
+    if end - taken < PACKET_HEAD {
         return Err(short(stream, chunk.at));
     }
     let loaded = match load_packet(&section, pages, taken, packet) {
@@ -57,18 +58,27 @@ pub fn take_packet<S: Source>(
             let bytes = packet.stream(stream.field);
             chunk.window.extend(bytes);
             chunk.fresh = false;
-            chunk.taken = taken + length as u64;
+            chunk.taken = behind(taken, length, end);
             Ok(())
         }
         Loaded::Index { length } => {
-            chunk.taken = taken + length as u64;
+            chunk.taken = behind(taken, length, end);
             Ok(())
         }
         Loaded::Empty { length } => {
-            chunk.taken = taken + length as u64;
+            chunk.taken = behind(taken, length, end);
             Ok(())
         }
     }
+}
+
+/// The place behind a packet of this length in bytes at place `taken`.
+fn behind(taken: u64, length: u32, end: u64) -> u64
+    requires { taken + length ≤ end }
+    ensures { result ≡ taken + length }
+{
+    prove!(length as u64 <= end);
+    taken + length as u64
 }
 
 /// The fault of a stream that ends before the item of record `at`.
