@@ -6,3 +6,4 @@ pub mod Taking
 pub mod StandingLaws
 pub mod Reading
 pub mod ReadingLaws
+pub mod Integers

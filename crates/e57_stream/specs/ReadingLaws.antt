@@ -24,9 +24,9 @@ use Rattle.e57_stream.specs.declared.bytestream.Bytestream.{Bytestream}
 use Rattle.e57_stream.specs.declared.chunk.Chunk.{Chunk}
 use Rattle.e57_stream.specs.Asking.{AsksMet, AsksNear}
 use Rattle.e57_stream.specs.AskingLaws.{asks_met_none, asks_met_on, asks_met_map, asks_near_none, asks_near_on}
-use Rattle.e57_stream.specs.Standing.{whole_bytes, let_gone, chunk_at, IsWithin, HasTaken, Reaches, Stands}
+use Rattle.e57_stream.specs.Standing.{whole_bytes, let_gone, moved_on, chunk_at, IsWithin, HasTaken, Reaches, Stands}
 use Rattle.e57_stream.specs.StandingLaws.{taken_first}
-use Rattle.e57_stream.specs.Taking.{InNext, TakesPacket, Finishes, TakesNone}
+use Rattle.e57_stream.specs.Taking.{InNext, TakesPacket, Finishes, IsFinishCause, TakesNone}
 use Rattle.e57_stream.specs.Reading.{chunk_item, IsMet, IsOf, StaysIn, ReadsItems, IsItemCause, StopsAt}
 
 told_all : (P : List ℕ → Type 0) (held : Option (List ℕ)) → ((file : List ℕ) → P file) → IfSome held P
@@ -61,7 +61,7 @@ met_on : (old mid new : SourceView) (b : Bytestream) (kind : ItemKind) (first se
 met_on old mid new b kind first second n m q stays at most same stands met =
     asks_met_map (λ file p. IsOf file b kind second → IsMet file b kind second second.at q p) (λ file p. IsOf file b kind first → IsMet file b kind first first.at n p) mid new
     (told_map (λ file. IsOf file b kind first → IsOf file b kind second) (λ file. (p : ℕ) → (IsOf file b kind second → IsMet file b kind second second.at q p) → IsOf file b kind first → IsMet file b kind first first.at n p) mid.held
-      (λ file on p is_met is. met_same file b kind first second first.at n m q p stays most (rw at at (is_met (on is))))
+      (λ file on p is_met is. met_same file b kind first second first.at n m q p stays most (subst (λ (a : ℕ). IsMet file b kind second a q p) at (is_met (on is))))
       (told_here (λ file. IsOf file b kind first → IsOf file b kind second) old.held mid.held same stands))
     met
 
@@ -212,7 +212,7 @@ lacks_next file b kind chunk is numbers lacks =
 
 -- ---- whole bytes are let go
 
-pub stands_gone : (file : List ℕ) (b : Bytestream) (w : ℕ) (chunk : Chunk) → Stands file b w chunk → Stands file b w (let_gone chunk)
+unfoldable pub stands_gone : (file : List ℕ) (b : Bytestream) (w : ℕ) (chunk : Chunk) → Stands file b w chunk → Stands file b w (let_gone chunk)
 unfolding let_gone
 stands_gone file b w chunk is =
     let n : ℕ = whole_bytes chunk in
@@ -225,6 +225,11 @@ stands_gone file b w chunk is =
       reaches = subst (λ (xs : List ℕ). HasTaken file b chunk.entry chunk.taken chunk.fresh xs) same is.reaches;
       begins = rw length-append (omega (arith, size, begins));
     }
+
+-- the bytes that were taken are the same
+gone_bytes : (file : List ℕ) (b : Bytestream) (w : ℕ) (chunk : Chunk) (is : Stands file b w chunk) → (stands_gone file b w chunk is).front ++ (let_gone chunk).window ≡ is.front ++ chunk.window
+unfolding let_gone stands_gone
+gone_bytes file b w chunk is = append_assoc is.front (take (whole_bytes chunk) chunk.window) (drop (whole_bytes chunk) chunk.window) ∙ ap (λ (xs : List ℕ). is.front ++ xs) (take-append-drop (whole_bytes chunk) chunk.window)
 
 -- ---- a packet more
 
@@ -279,3 +284,96 @@ reads_none old new b kind before after want read numbers some within lacks takes
       stands = told_map (λ file. (front : List ℕ) → Reaches file b (let_gone before) front → Reaches file b after front) (λ file. IsOf file b kind before → IsOf file b kind after) old.held
           (λ file reaches is. let gone = stands_gone file b (kind_width kind) before is in record { front = gone.front; reaches = reaches gone.front gone.reaches; begins = rw (at, start, bit) gone.begins }) takes.reaches;
     }
+
+short_cause : (old new : SourceView) (b : Bytestream) (kind : ItemKind) (before : Chunk) (found : ReadFault) → before.start ≤ before.at → AreNumbers kind → Lacks kind before → IsFinishCause old b (let_gone before) found new → IsItemCause old b kind before (before.at + 0) found new
+unfolding let_gone
+short_cause old new b kind before (Refused found) low numbers lacks cause =
+    let kinds = cause.0 in
+    let none : before.at + 0 ≡ before.at = omega arith in
+    (rw kinds refl,
+      told_map (λ file. (front : List ℕ) → Reaches file b (let_gone before) front → Finishes file b before.entry before.at (front ++ (let_gone before).window) found) (λ file. IsOf file b kind before → chunk_item file b kind before (before.at + 0) ≡ Err found) old.held
+      (λ file ends is.
+        let gone = stands_gone file b (kind_width kind) before is in
+        let whole = gone_bytes file b (kind_width kind) before is in
+        let finishes = subst (λ (xs : List ℕ). Finishes file b before.entry before.at xs found) whole (ends gone.front gone.reaches) in
+        ap (chunk_item file b kind before) none ∙ chunk_short file b kind before (is.front ++ before.window) found low finishes (lacks_next file b kind before is numbers lacks)) cause.1)
+short_cause old new b kind before Source low numbers lacks cause = cause
+
+-- Where the window ends before the next item and no packet was taken, the read stops.
+pub stops_short : (old new : SourceView) (b : Bytestream) (kind : ItemKind) (before after : Chunk) (want : ℕ) (found : ReadFault) (read : ℕ → Value) → AreNumbers kind → 0 < want → IsWithin b.section (kind_width kind) before → Lacks kind before
+    → TakesNone old b (let_gone before) found after new → StopsAt old b kind before want 0 found read after new
+unfolding let_gone
+stops_short old new b kind before after want found read numbers some within lacks none =
+    let low = within.low in
+    let begins = within.begins in
+    subst (λ (chunk : Chunk). StopsAt old b kind before want 0 found read chunk new) (sym none.same)
+    (record {
+      below = some;
+      stays = record {
+        start = refl;
+        until = refl;
+        entry = refl;
+        onward = omega arith;
+        within = record { low = low; high = within.high; most = within.most; taken_within = within.taken_within; begins = omega (arith, begins) };
+      };
+      met = next_asked old new b kind before 1 (omega arith) numbers lacks none.met;
+      items = told_all (λ file. IsOf file b kind before → (j : ℕ) → j < 0 → chunk_item file b kind before (before.at + j) ≡ Ok (read j)) old.held (λ file is j below. absurd (omega arith));
+      stands = told_all (λ file. IsOf file b kind before → IsOf file b kind (let_gone before)) old.held (λ file is. stands_gone file b (kind_width kind) before is);
+      cause = short_cause old new b kind before found low numbers lacks none.cause;
+    })
+-- ---- items of the window
+
+-- The next m items are in the window, whatever comes before it.
+abbrev pub AreHere : ItemKind → Chunk → ℕ → (ℕ → Value) → Type 0
+AreHere kind chunk m read = (front : List ℕ) → 8 * length front + chunk.bit ≡ kind_width kind * (chunk.at - chunk.start) → (j : ℕ) → j < m → item_at kind (front ++ chunk.window) (chunk.at - chunk.start + j) ≡ here (read j)
+
+spread : (w a s m : ℕ) → s ≤ a → w * (a + m - s) ≡ w * (a - s) + w * m
+spread w a s m low = let e : a + m - s ≡ a - s + m = omega arith in rw e (omega arith)
+
+items_here : (file : List ℕ) (b : Bytestream) (kind : ItemKind) (before : Chunk) (m : ℕ) (read : ℕ → Value) → before.start ≤ before.at → AreHere kind before m read → IsOf file b kind before → (j : ℕ) → j < m → chunk_item file b kind before (before.at + j) ≡ Ok (read j)
+items_here file b kind before m read low each is j below =
+    let number : before.at + j - before.start ≡ before.at - before.start + j = omega arith in
+    chunk_here file b kind before (is.front ++ before.window) (before.at + j) (read j) is.reaches (ap (item_at kind (is.front ++ before.window)) number ∙ each is.front is.begins j below)
+
+-- Items of the window were read.
+pub reads_taken : (source : SourceView) (b : Bytestream) (kind : ItemKind) (before : Chunk) (want m : ℕ) (read : ℕ → Value) → m ≤ want → before.at + m ≤ before.until → IsWithin b.section (kind_width kind) before → AreHere kind before m read
+    → ReadsItems source b kind before want m read (moved_on (kind_width kind) m before) source
+unfolding moved_on
+reads_taken source b kind before want m read few room within each =
+    let low = within.low in
+    let begins = within.begins in
+    let more = spread (kind_width kind) before.at before.start m low in
+    record {
+      count = few;
+      stays = record {
+        start = refl;
+        until = refl;
+        entry = refl;
+        onward = omega arith;
+        within = record { low = omega (arith, low); high = room; most = within.most; taken_within = within.taken_within; begins = omega (arith, begins, more) };
+      };
+      at = refl;
+      near = asks_near_none before.taken source;
+      met = asks_met_none (λ file p. IsOf file b kind before → IsMet file b kind before before.at (min (m + 1) want) p) source;
+      items = told_all (λ file. IsOf file b kind before → (j : ℕ) → j < m → chunk_item file b kind before (before.at + j) ≡ Ok (read j)) source.held (λ file is j below. items_here file b kind before m read low each is j below);
+      stands = told_all (λ file. IsOf file b kind before → IsOf file b kind (moved_on (kind_width kind) m before)) source.held
+          (λ file is. let at = is.begins in record { front = is.front; reaches = is.reaches; begins = omega (arith, at, more) });
+    }
+
+-- The item behind k items of the window is out of range.
+pub stops_out : (source : SourceView) (b : Bytestream) (kind : ItemKind) (before : Chunk) (want k : ℕ) (found : ReadFault) (read : ℕ → Value) → k < want → IsWithin b.section (kind_width kind) before → AreHere kind before k read
+    → ((front : List ℕ) → 8 * length front + before.bit ≡ kind_width kind * (before.at - before.start) → item_at kind (front ++ before.window) (before.at - before.start + k) ≡ out_of_range (before.at - before.start + k))
+    → found ≡ Refused (fault ValueRange (before.at + k) b.node) → StopsAt source b kind before want k found read before source
+stops_out source b kind before want k found read below within each out is =
+    let low = within.low in
+    let number : before.at + k - before.start ≡ before.at - before.start + k = omega arith in
+    rw is
+    (record {
+      below = below;
+      stays = record { start = refl; until = refl; entry = refl; onward = omega arith; within = within };
+      met = asks_met_none (λ file p. IsOf file b kind before → IsMet file b kind before before.at (k + 1) p) source;
+      items = told_all (λ file. IsOf file b kind before → (j : ℕ) → j < k → chunk_item file b kind before (before.at + j) ≡ Ok (read j)) source.held (λ file of j near. items_here file b kind before k read low each of j near);
+      stands = told_all (λ file. IsOf file b kind before → IsOf file b kind before) source.held (λ file of. of);
+      cause = (refl, told_all (λ file. IsOf file b kind before → chunk_item file b kind before (before.at + k) ≡ Err (fault ValueRange (before.at + k) b.node)) source.held
+          (λ file of. chunk_out file b kind before (of.front ++ before.window) (before.at + k) (omega (arith, low)) of.reaches (rw number (out of.front of.begins))));
+    })

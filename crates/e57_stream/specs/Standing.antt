@@ -1,5 +1,5 @@
 -- Where a reader of a field's stream stands in a chunk.
-use Rattle.std.specs.Prelude.{◌≡◌, ℕ, ◌+◌, ◌-◌, ◌*◌, ◌/◌, ◌<◌, ◌≤◌, min, Bool, true, false, List, [], ◌++◌, length, drop}
+use Rattle.std.specs.Prelude.{◌≡◌, ℕ, ◌+◌, ◌-◌, ◌*◌, ◌/◌, ◌<◌, ◌≤◌, ◌⊎◌, min, Bool, true, false, List, [], ◌++◌, length, drop}
 use Rattle.e57_layout.specs.declared.section.Section.{Section}
 use Rattle.e57_sections.specs.Walk.{Packet}
 use Rattle.e57_sections.specs.Chunks.{data_packets, stream_of, by_chunk}
@@ -16,6 +16,22 @@ whole_bytes chunk = min (chunk.bit / 8) (length chunk.window)
 -- the state without them
 unfoldable pub let_gone : Chunk → Chunk
 let_gone chunk = record chunk { window = drop (whole_bytes chunk) chunk.window; bit = chunk.bit - 8 * whole_bytes chunk }
+
+-- how many records are read into so many places
+abbrev pub wanted : Chunk → ℕ → ℕ
+wanted chunk places = min places (chunk.until - chunk.at)
+
+-- how many items of w bits the window has from the next one on
+abbrev pub items_held : ℕ → Chunk → ℕ
+items_held w chunk = (8 * length chunk.window - chunk.bit) / w
+
+-- the state after m items of w bits
+unfoldable pub moved_on : ℕ → ℕ → Chunk → Chunk
+moved_on w m chunk = record chunk { at = chunk.at + m; bit = chunk.bit + w * m }
+
+-- an item was read, or a packet was taken
+abbrev pub IsOnward : Chunk → Chunk → Type 0
+IsOnward before after = (before.at < after.at) ⊎ (before.taken < after.taken)
 
 -- the chunk as the path to an item has it
 abbrev pub chunk_at : Chunk → ChunkAt

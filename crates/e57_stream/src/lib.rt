@@ -4,10 +4,12 @@
 
 mod bytestream;
 mod chunk;
+mod integers;
 mod taking;
 mod window;
 
 pub use bytestream::{Bytestream, Integers, Stopped};
 pub use chunk::{Chunk, let_go};
+pub use integers::read_integers;
 pub use taking::take_packet;
 pub use window::Window;
