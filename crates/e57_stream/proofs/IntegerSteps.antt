@@ -5,6 +5,7 @@ use Rattle.std.proofs.lemmas.Bool.{cases_lt}
 use Rattle.std.proofs.lemmas.List.{length-take, length-drop, get_or-drop, get_or_append_left, get_or-append-add}
 use Rattle.e57_base.specs.Source.{SourceView}
 use Rattle.e57_base.specs.declared.fault.ReadFault.{ReadFault}
+use Rattle.e57_lanes.specs.Unpack.{Written}
 use Rattle.e57_layout.specs.Values.{Value, whole}
 use Rattle.e57_layout.specs.Widths.{width}
 use Rattle.e57_layout.specs.Laws.Widths.{bit_length-le}
@@ -12,10 +13,10 @@ use Rattle.std.specs.Int.{int_gap}
 use Rattle.e57_stream.specs.declared.bytestream.Bytestream.{Bytestream}
 use Rattle.e57_stream.specs.declared.bytestream.Integers.{Integers}
 use Rattle.e57_stream.specs.declared.chunk.Chunk.{Chunk}
-use Rattle.e57_stream.specs.Standing.{IsWithin, items_held, moved_on, let_gone, whole_bytes, IsOnward}
+use Rattle.e57_stream.specs.Standing.{IsWithin, items_held, moved_on, let_gone, whole_bytes, wanted, IsOnward}
 use Rattle.e57_stream.specs.Taking.{TakesPacket, TakesNone}
 use Rattle.e57_stream.specs.Reading.{ReadsItems, StopsAt}
-use Rattle.e57_stream.specs.ReadingLaws.{Lacks, reads_none, stops_short, reads_on, stops_on}
+use Rattle.e57_stream.specs.ReadingLaws.{Lacks, reads_none, stops_short, reads_on, stops_on, reads_nothing}
 use Rattle.e57_stream.specs.Integers.{IsRange, kind_of, FillsIntegers, whole_at, ReadsIntegers, StopsIntegers, TakesIntegers}
 use Rattle.e57_stream.proofs.IntegerItems.{none_held, fills_integers}
 use borrow.Rule.Slice.PartMut.{put_mid}
@@ -65,6 +66,36 @@ within_as b range chunk e within = subst (λ (w : ℕ). IsWithin b.section w chu
 some_bits : (range : Integers) → IsRange range → 0 < width range.low range.high
 some_bits range is = subst (λ (w : ℕ). 0 < w) is.width_is is.some
 
+later : (source source' : SourceView) (b : Bytestream) (before after : Chunk) → TakesPacket source b (let_gone before) after source' → before.taken < after.taken
+unfolding let_gone
+later source source' b before after taken = let there = taken.there in omega (arith, there)
+
+gone_taken : (chunk : Chunk) → (let_gone chunk).taken ≡ chunk.taken
+unfolding let_gone
+gone_taken chunk = refl
+
+-- what taking a packet asks for
+pub record MayTake (end : ℕ) (gone : Chunk) : Type 0 where
+  pub within : gone.taken ≤ end
+  pub left : length gone.window ≤ 16
+
+pub may_take : (b : Bytestream) (range : Integers) (before mid gone : Chunk) (old new : List ℤ) → IsRange range → before.taken ≤ b.section.end → 0 < length old → TakesIntegers range before old (Ok 0) mid new → gone ≡ let_gone mid → MayTake b.section.end gone
+may_take b range before mid gone old new is within some takes gone_is =
+    let none = has_none range before old new mid is some takes in
+    let same : gone.taken ≡ before.taken = ap (λ (c : Chunk). c.taken) gone_is ∙ gone_taken mid ∙ ap (λ (c : Chunk). c.taken) none.same in
+    record { within = omega (arith, same, within); left = subst (λ (c : Chunk). length c.window ≤ 16) (sym gone_is) none.left }
+
+-- none were taken
+pub takes_zero : (range : Integers) (before mid : Chunk) (old new : List ℤ) (n : ℕ) → n ≤ 0 → TakesIntegers range before old (Ok n) mid new → TakesIntegers range before old (Ok 0) mid new
+takes_zero range before mid old new n none takes = let e : n ≡ 0 = omega (arith, none) in subst (λ (k : ℕ). TakesIntegers range before old (Ok k) mid new) e takes
+
+-- some were
+pub onward_items : (range : Integers) (before after : Chunk) (old new : List ℤ) (n : ℕ) → 0 < n → TakesIntegers range before old (Ok n) after new → IsOnward before after
+unfolding moved_on
+onward_items range before after old new n some takes =
+    let at : after.at ≡ before.at + n = ap (λ (c : Chunk). c.at) takes.1 in
+    inl (omega (arith, at, some))
+
 -- then a packet was taken
 pub reads_packet : (source source' : SourceView) (b : Bytestream) (range : Integers) (before mid gone after : Chunk) (old new : List ℤ) → IsRange range → IsWithin b.section range.width before → 0 < length old → TakesIntegers range before old (Ok 0) mid new → gone ≡ let_gone mid
     → TakesPacket source b gone after source' → ReadsIntegers source b range before (length old) 0 old new after source' × (before.taken < after.taken)
@@ -74,11 +105,7 @@ reads_packet source source' b range before mid gone after old new is within some
     (record {
       fills = fills_integers range before 0 old new is takes.2;
       reads = reads_none source source' b (kind_of range) before after (length old) (whole_at new) (some_bits range is) some (within_as b range before is.width_is within) none.lacks taken;
-    }, later before after taken)
-  where
-    unfolding let_gone
-    later : (before after : Chunk) → TakesPacket source b (let_gone before) after source' → before.taken < after.taken
-    later before after taken = let there = taken.there in omega (arith, there)
+    }, later source source' b before after taken)
 
 -- or none was
 pub stops_packet : (source source' : SourceView) (b : Bytestream) (range : Integers) (before mid gone after : Chunk) (old new : List ℤ) (found : ReadFault) → IsRange range → IsWithin b.section range.width before → 0 < length old → TakesIntegers range before old (Ok 0) mid new → gone ≡ let_gone mid
@@ -118,7 +145,7 @@ length-part xs ys n k room size =
     let rest : length (drop k (drop n xs)) ≡ length xs - n - k = length-drop k (drop n xs) ∙ ap (λ (i : ℕ). i - k) (length-drop n xs) in
     length-append (take n xs) (ys ++ drop k (drop n xs)) ∙ ap (λ (i : ℕ). length (take n xs) + i) (length-append ys (drop k (drop n xs))) ∙ omega (arith, front, rest, room, size)
 
-length_of_part : (xs part : List ℤ) (want n : ℕ) → n ≤ want → want ≤ length xs → part ≡ take (want - n) (drop n xs) → length part ≡ want - n
+pub length_of_part : (xs part : List ℤ) (want n : ℕ) → n ≤ want → want ≤ length xs → part ≡ take (want - n) (drop n xs) → length part ≡ want - n
 length_of_part xs part want n few room is =
     let size = length-drop n xs in
     ap (λ (l : List ℤ). length l) is ∙ length-take (want - n) (drop n xs) ∙ omega (arith, size, few, room)
@@ -193,3 +220,62 @@ stops_integers_on s0 s1 s2 b range first second third want n m found out0 out1 p
           (λ j there. ap whole (sym (part_in out1 part' n (want - n) j (pos 0) begin (omega (arith, there, count, size, size_too)))))
           f.reads (subst (λ (k : ℕ). StopsAt s1 b (kind_of range) second k m found (whole_at part') third s2) size g.stops);
     }
+
+-- ---- unpacking
+
+pub written_none : (bytes : List ℕ) (phase w : ℕ) (low : ℤ) (span : ℕ) (out : List ℤ) → Written bytes phase w low span 0 0 out out
+written_none bytes phase w low span out = record { within = λ k from until. absurd (omega (arith, until)); items = λ k from until. absurd (omega (arith, until)); others = λ k not_those. refl; same_length = refl }
+
+-- what was unpacked into the front of a buffer
+pub written_front : (bytes : List ℕ) (phase w : ℕ) (low : ℤ) (span n : ℕ) (out part : List ℤ) → n ≤ length out → Written bytes phase w low span 0 n (take n out) part → Written bytes phase w low span 0 n out (part ++ drop n out)
+written_front bytes phase w low span n out part room written =
+    let front : length (take n out) ≡ n = length-take n out ∙ omega (arith, room) in
+    let size : length part ≡ n = written.same_length ∙ front in
+    let rest : length (drop n out) ≡ length out - n = length-drop n out in
+    record {
+      within = written.within;
+      items = λ k from until. get_or_append_left part (drop n out) (pos 0) k (omega (arith, size, until)) ∙ written.items k from until;
+      others = λ k not_those. ⊎_elim (λ (below : k < 0). absurd (omega (arith, below))) (λ (past : n ≤ k). behind k past size) not_those;
+      same_length = length-append part (drop n out) ∙ omega (arith, size, rest, room);
+    }
+  where
+    behind : (k : ℕ) → n ≤ k → length part ≡ n → get_or (part ++ drop n out) k (pos 0) ≡ get_or out k (pos 0)
+    behind k past size =
+        let e : length part + (k - n) ≡ k = omega (arith, size, past) in
+        let f : n + (k - n) ≡ k = omega (arith, past) in
+        ap (λ (i : ℕ). get_or (part ++ drop n out) i (pos 0)) (sym e) ∙ get_or-append-add part (drop n out) (k - n) (pos 0) ∙ get_or-drop n out (k - n) (pos 0) ∙ ap (λ (i : ℕ). get_or out i (pos 0)) f
+
+-- ---- a loop
+
+-- nothing was read yet
+pub reads_integers_none : (source : SourceView) (b : Bytestream) (range : Integers) (chunk : Chunk) (want : ℕ) (out : List ℤ) → IsRange range → IsWithin b.section range.width chunk → ReadsIntegers source b range chunk want 0 out out chunk source
+reads_integers_none source b range chunk want out is within = record {
+    fills = record { least = λ j below. absurd (omega (arith, below)); most = λ j below. absurd (omega (arith, below)); rest = λ j past. refl; same_length = refl };
+    reads = reads_nothing source b (kind_of range) chunk want (whole_at out) (within_as b range chunk is.width_is within);
+  }
+
+-- what a step asks for
+pub record MayStep (b : Bytestream) (range : Integers) (chunk : Chunk) (places : ℕ) : Type 0 where
+  pub within : IsWithin b.section range.width chunk
+  pub left : chunk.at + places ≤ chunk.until
+
+pub may_step : (s0 s1 : SourceView) (b : Bytestream) (range : Integers) (first second : Chunk) (want n : ℕ) (out0 out1 : List ℤ) → IsRange range → first.at ≤ first.until → n ≤ want → want ≡ wanted first (length out0) → ReadsIntegers s0 b range first want n out0 out1 second s1 → MayStep b range second (want - n)
+may_step s0 s1 b range first second want n out0 out1 is low few want_is f =
+    let at = f.reads.at in
+    let until = f.reads.stays.until in
+    record {
+      within = subst (λ (w : ℕ). IsWithin b.section w second) (sym is.width_is) f.reads.stays.within;
+      left = omega (arith, at, until, few, want_is, low);
+    }
+
+-- a step goes on: what is left of the section and of the records is less
+pub step_smaller : (s0 s1 : SourceView) (b : Bytestream) (range : Integers) (before after : Chunk) (left n : ℕ) (out new : List ℤ) → ReadsIntegers s0 b range before left n out new after s1 → IsOnward before after → (want done : ℕ) → left ≡ want - done → done < want → (b.section.end - after.taken) + (want - (done + n)) < (b.section.end - before.taken) + (want - done)
+step_smaller s0 s1 b range before after left n out new f onward want done left_is below =
+    let at = f.reads.at in
+    let on = f.reads.stays.onward in
+    let count = f.reads.count in
+    let within = f.reads.stays.within.taken_within in
+    ⊎_elim
+    (λ (items : before.at < after.at). omega (arith, at, on, count, within, items, left_is, below))
+    (λ (packet : before.taken < after.taken). omega (arith, on, count, within, packet, left_is, below))
+    onward

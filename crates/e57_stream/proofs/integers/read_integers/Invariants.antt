@@ -5,8 +5,8 @@ use Rattle.e57_stream.proofs.integers.read_integers.Given as goal
 
 abbrev pub invariant-loop-done : goal.invariant-loop-done
 invariant-loop-done g l = record {
-    length : l.pages.length ≡ l.fn.pages.length;
-    header : l.pages.header ≡ l.fn.pages.header;
+    same_size : l.pages.length ≡ l.fn.pages.length;
+    same_header : l.pages.header ≡ l.fn.pages.header;
     want_is : l.want ≡ wanted l.fn.chunk (length l.fn.out);
     reads : ReadsIntegers (g.S.Source.view l.fn.pages.source) l.fn.stream l.fn.range l.fn.chunk l.want l.done l.fn.out l.out l.chunk (g.S.Source.view l.pages.source);
   }
