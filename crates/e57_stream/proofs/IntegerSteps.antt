@@ -226,6 +226,10 @@ stops_integers_on s0 s1 s2 b range first second third want n m found out0 out1 p
 pub written_none : (bytes : List ℕ) (phase w : ℕ) (low : ℤ) (span : ℕ) (out : List ℤ) → Written bytes phase w low span 0 0 out out
 written_none bytes phase w low span out = record { within = λ k from until. absurd (omega (arith, until)); items = λ k from until. absurd (omega (arith, until)); others = λ k not_those. refl; same_length = refl }
 
+-- all of so many places were written
+pub all_written : (bytes : List ℕ) (phase w : ℕ) (low : ℤ) (span n : ℕ) (out new : List ℤ) → length out ≡ n → Written bytes phase w low span 0 (length out) out new → Written bytes phase w low span 0 n out new
+all_written bytes phase w low span n out new size written = subst (λ (k : ℕ). Written bytes phase w low span 0 k out new) size written
+
 -- what was unpacked into the front of a buffer
 pub written_front : (bytes : List ℕ) (phase w : ℕ) (low : ℤ) (span n : ℕ) (out part : List ℤ) → n ≤ length out → Written bytes phase w low span 0 n (take n out) part → Written bytes phase w low span 0 n out (part ++ drop n out)
 written_front bytes phase w low span n out part room written =

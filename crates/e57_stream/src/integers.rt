@@ -161,7 +161,9 @@ fn unpack_at(bytes: &[u8], bit: u64, range: &Integers, out: &mut [i64]) -> Resul
 {
     let skipped = (bit / 8) as usize;
     let phase = (bit % 8) as u8;
-    unpack(&bytes[skipped..], phase, range.width, range.low, span(range), out)
+    let (low, high) = (range.low, range.high);
+    prove!(low <= high);
+    unpack(&bytes[skipped..], phase, range.width, low, span(range), out)
 }
 
 /// How far the highest value is above the lowest.
