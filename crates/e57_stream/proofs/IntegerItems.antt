@@ -86,8 +86,8 @@ are_here range chunk m old new is few written front begins j below =
     let at = begins_as range chunk front is.width_is begins in
     let near : number (drop (chunk.bit / 8) chunk.window) (chunk.bit % 8 + j * range.width) range.width ≤ int_gap range.low range.high = written.within j (omega arith) below in
     here_integer range.low range.high range.width (front ++ chunk.window) (chunk.at - chunk.start + j) (number (drop (chunk.bit / 8) chunk.window) (chunk.bit % 8 + j * range.width) range.width) is.width_is is.some
-      (bits_behind front chunk.window range.width chunk.bit (chunk.at - chunk.start) j is.some at (omega (arith, below, few)))
-      (number_behind front chunk.window range.width chunk.bit (chunk.at - chunk.start) j at) near
+    (bits_behind front chunk.window range.width chunk.bit (chunk.at - chunk.start) j is.some at (omega (arith, below, few)))
+    (number_behind front chunk.window range.width chunk.bit (chunk.at - chunk.start) j at) near
     ∙ ap (λ (z : ℤ). here (whole z)) (sym (written.items j (omega arith) below))
 
 pub is_over : (range : Integers) (chunk : Chunk) (k : ℕ) → IsRange range → k < items_held range.width chunk → int_gap range.low range.high < window_number range chunk k
@@ -95,18 +95,18 @@ pub is_over : (range : Integers) (chunk : Chunk) (k : ℕ) → IsRange range →
 is_over range chunk k is below far front begins =
     let at = begins_as range chunk front is.width_is begins in
     over_integer range.low range.high range.width (front ++ chunk.window) (chunk.at - chunk.start + k) (window_number range chunk k) is.width_is is.some
-      (bits_behind front chunk.window range.width chunk.bit (chunk.at - chunk.start) k is.some at below)
-      (number_behind front chunk.window range.width chunk.bit (chunk.at - chunk.start) k at) far
+    (bits_behind front chunk.window range.width chunk.bit (chunk.at - chunk.start) k is.some at below)
+    (number_behind front chunk.window range.width chunk.bit (chunk.at - chunk.start) k at) far
 
 -- ---- a buffer
 
 pub fills_integers : (range : Integers) (chunk : Chunk) (n : ℕ) (old new : List ℤ) → IsRange range → WindowWritten range chunk n old new → FillsIntegers range n old new
 fills_integers range chunk n old new is written = record {
-    least = λ j below. rw (written.items j (omega arith) below) (gap-above range.low range.high (window_number range chunk j) is.order (written.within j (omega arith) below)).0;
-    most = λ j below. rw (written.items j (omega arith) below) (gap-above range.low range.high (window_number range chunk j) is.order (written.within j (omega arith) below)).1;
-    rest = λ j past. written.others j (inr past);
-    same_length = written.same_length;
-  }
+  least = λ j below. rw (written.items j (omega arith) below) (gap-above range.low range.high (window_number range chunk j) is.order (written.within j (omega arith) below)).0;
+  most = λ j below. rw (written.items j (omega arith) below) (gap-above range.low range.high (window_number range chunk j) is.order (written.within j (omega arith) below)).1;
+  rest = λ j past. written.others j (inr past);
+  same_length = written.same_length;
+}
 
 within_as : (b : Bytestream) (range : Integers) (chunk : Chunk) → range.width ≡ width range.low range.high → IsWithin b.section range.width chunk → IsWithin b.section (width range.low range.high) chunk
 within_as b range chunk e within = subst (λ (w : ℕ). IsWithin b.section w chunk) e within
@@ -131,5 +131,5 @@ stops_integers source b range before old new k found after is within takes fault
       fills = fills_integers range before k old new is takes.2;
       stops = subst (λ (chunk : Chunk). StopsAt source b (kind_of range) before (length old) k found (whole_at new) chunk source) (sym takes.1)
           (stops_out source b (kind_of range) before (length old) k found (whole_at new) (omega (arith, below)) (within_as b range before is.width_is within) (are_here range before k old new is (omega (arith, below)) takes.2)
-            (is_over range before k is (omega (arith, below)) takes.3) fault_is);
+          (is_over range before k is (omega (arith, below)) takes.3) fault_is);
     }

@@ -101,11 +101,13 @@ pub reads_packet : (source source' : SourceView) (b : Bytestream) (range : Integ
     → TakesPacket source b gone after source' → ReadsIntegers source b range before (length old) 0 old new after source' × (before.taken < after.taken)
 reads_packet source source' b range before mid gone after old new is within some takes gone_is packet =
     let none = has_none range before old new mid is some takes in
-    let taken : TakesPacket source b (let_gone before) after source' = subst (λ (chunk : Chunk). TakesPacket source b chunk after source') (gone_is ∙ ap let_gone none.same) packet in
-    (record {
-      fills = fills_integers range before 0 old new is takes.2;
-      reads = reads_none source source' b (kind_of range) before after (length old) (whole_at new) (some_bits range is) some (within_as b range before is.width_is within) none.lacks taken;
-    }, later source source' b before after taken)
+    let taken : TakesPacket source b (let_gone before) after source' = subst (λ (chunk : Chunk). TakesPacket source b chunk after source') (gone_is ∙ ap let_gone none.same) packet in (
+      record {
+        fills = fills_integers range before 0 old new is takes.2;
+        reads = reads_none source source' b (kind_of range) before after (length old) (whole_at new) (some_bits range is) some (within_as b range before is.width_is within) none.lacks taken;
+      },
+      later source source' b before after taken,
+    )
 
 -- or none was
 pub stops_packet : (source source' : SourceView) (b : Bytestream) (range : Integers) (before mid gone after : Chunk) (old new : List ℤ) (found : ReadFault) → IsRange range → IsWithin b.section range.width before → 0 < length old → TakesIntegers range before old (Ok 0) mid new → gone ≡ let_gone mid
@@ -159,16 +161,16 @@ fills_on range want n m out0 out1 part part' few room is fewer f g =
       least = λ j below. ⊎_elim
           (λ (early : j < n). rw (part_before out1 part' n (want - n) j (pos 0) begin early) (f.least j early))
           (λ (late : n ≤ j).
-            let e : n + (j - n) ≡ j = omega (arith, late) in
-            let there : j - n < m = omega (arith, below, late) in
-            subst (λ (i : ℕ). range.low ≤ℤ get_or (put_mid n (want - n) out1 part') i (pos 0)) e (rw (part_in out1 part' n (want - n) (j - n) (pos 0) begin (omega (arith, there, size, fewer))) (g.least (j - n) there)))
+          let e : n + (j - n) ≡ j = omega (arith, late) in
+          let there : j - n < m = omega (arith, below, late) in
+          subst (λ (i : ℕ). range.low ≤ℤ get_or (put_mid n (want - n) out1 part') i (pos 0)) e (rw (part_in out1 part' n (want - n) (j - n) (pos 0) begin (omega (arith, there, size, fewer))) (g.least (j - n) there)))
           (cases_lt j n);
       most = λ j below. ⊎_elim
           (λ (early : j < n). rw (part_before out1 part' n (want - n) j (pos 0) begin early) (f.most j early))
           (λ (late : n ≤ j).
-            let e : n + (j - n) ≡ j = omega (arith, late) in
-            let there : j - n < m = omega (arith, below, late) in
-            subst (λ (i : ℕ). get_or (put_mid n (want - n) out1 part') i (pos 0) ≤ℤ range.high) e (rw (part_in out1 part' n (want - n) (j - n) (pos 0) begin (omega (arith, there, size, fewer))) (g.most (j - n) there)))
+          let e : n + (j - n) ≡ j = omega (arith, late) in
+          let there : j - n < m = omega (arith, below, late) in
+          subst (λ (i : ℕ). get_or (put_mid n (want - n) out1 part') i (pos 0) ≤ℤ range.high) e (rw (part_in out1 part' n (want - n) (j - n) (pos 0) begin (omega (arith, there, size, fewer))) (g.most (j - n) there)))
           (cases_lt j n);
       rest = λ j past. rest_of j past begin size;
       same_length = length-part out1 part' n (want - n) (omega (arith, few, room)) size ∙ f.same_length;
@@ -183,11 +185,11 @@ fills_on range want n m out0 out1 part part' few room is fewer f g =
     rest_of : (j : ℕ) → n + m ≤ j → n ≤ length out1 → length part' ≡ want - n → get_or (put_mid n (want - n) out1 part') j (pos 0) ≡ get_or out0 j (pos 0)
     rest_of j past begin size = ⊎_elim
         (λ (below : j < want).
-          let e : n + (j - n) ≡ j = omega (arith, past) in
-          subst (λ (i : ℕ). get_or (put_mid n (want - n) out1 part') i (pos 0) ≡ get_or out1 i (pos 0)) e (inside j past below begin size) ∙ f.rest j (omega (arith, past)))
+        let e : n + (j - n) ≡ j = omega (arith, past) in
+        subst (λ (i : ℕ). get_or (put_mid n (want - n) out1 part') i (pos 0) ≡ get_or out1 i (pos 0)) e (inside j past below begin size) ∙ f.rest j (omega (arith, past)))
         (λ (behind : want ≤ j).
-          let e : n + (want - n + (j - want)) ≡ j = omega (arith, behind, few) in
-          subst (λ (i : ℕ). get_or (put_mid n (want - n) out1 part') i (pos 0) ≡ get_or out1 i (pos 0)) e (part_behind out1 part' n (want - n) (j - want) (pos 0) begin size) ∙ f.rest j (omega (arith, past)))
+        let e : n + (want - n + (j - want)) ≡ j = omega (arith, behind, few) in
+        subst (λ (i : ℕ). get_or (put_mid n (want - n) out1 part') i (pos 0) ≡ get_or out1 i (pos 0)) e (part_behind out1 part' n (want - n) (j - want) (pos 0) begin size) ∙ f.rest j (omega (arith, past)))
         (cases_lt j want)
 
 -- some items, and then some more into a part of the buffer
@@ -254,9 +256,9 @@ written_front bytes phase w low span n out part room written =
 -- nothing was read yet
 pub reads_integers_none : (source : SourceView) (b : Bytestream) (range : Integers) (chunk : Chunk) (want : ℕ) (out : List ℤ) → IsRange range → IsWithin b.section range.width chunk → ReadsIntegers source b range chunk want 0 out out chunk source
 reads_integers_none source b range chunk want out is within = record {
-    fills = record { least = λ j below. absurd (omega (arith, below)); most = λ j below. absurd (omega (arith, below)); rest = λ j past. refl; same_length = refl };
-    reads = reads_nothing source b (kind_of range) chunk want (whole_at out) (within_as b range chunk is.width_is within);
-  }
+  fills = record { least = λ j below. absurd (omega (arith, below)); most = λ j below. absurd (omega (arith, below)); rest = λ j past. refl; same_length = refl };
+  reads = reads_nothing source b (kind_of range) chunk want (whole_at out) (within_as b range chunk is.width_is within);
+}
 
 -- what a step asks for
 pub record MayStep (b : Bytestream) (range : Integers) (chunk : Chunk) (places : ℕ) : Type 0 where

@@ -49,7 +49,7 @@ near_loaded old new kept now s q answer held loads =
 next_met : (old new : SourceView) (b : Bytestream) (chunk : Chunk) → chunk.taken + 4 ≤ b.section.end → AsksMet (λ file p. InSpan chunk.taken (needed_at file b.section chunk.taken) p) old new → AsksMet (InNext b chunk) old new
 next_met old new b chunk there met =
     asks_met_map (λ file p. InSpan chunk.taken (needed_at file b.section chunk.taken) p) (InNext b chunk) old new
-      (told_all (λ file. (p : ℕ) → InSpan chunk.taken (needed_at file b.section chunk.taken) p → InNext b chunk file p) old.held (λ file p within. (there, within))) met
+    (told_all (λ file. (p : ℕ) → InSpan chunk.taken (needed_at file b.section chunk.taken) p → InNext b chunk file p) old.held (λ file p within. (there, within))) met
 
 met_loaded : (old new : SourceView) (kept now : List ℕ) (b : Bytestream) (chunk : Chunk) (answer : Loaded) (held : Option (List (List ℕ))) → LoadsPacket old kept b.section chunk.taken answer held new now → AsksMet (InNext b chunk) old new
 met_loaded old new kept now b chunk answer held loads =
@@ -57,9 +57,9 @@ met_loaded old new kept now b chunk answer held loads =
     let some = loads.some in
     let within = loads.within in
     next_met old new b chunk (omega (arith, some, within)) (packet_met kept chunk.taken (needed_by answer) (λ file. needed_at file b.section chunk.taken) old new less.0
-      (told_both (λ file. packet_fault file b.section chunk.taken ≡ None) (λ file. IsLoaded (logical file) chunk.taken answer held) (λ file. needed_by answer ≤ needed_at file b.section chunk.taken) old.held
-        (λ file sound is. let e = needed_loaded file b.section chunk.taken answer held sound is in omega (arith, e)) loads.sound loads.read)
-      loads.source)
+    (told_both (λ file. packet_fault file b.section chunk.taken ≡ None) (λ file. IsLoaded (logical file) chunk.taken answer held) (λ file. needed_by answer ≤ needed_at file b.section chunk.taken) old.held
+    (λ file sound is. let e = needed_loaded file b.section chunk.taken answer held sound is in omega (arith, e)) loads.sound loads.read)
+    loads.source)
 
 -- a data packet of the chunk
 reached_data : (file : List ℕ) (b : Bytestream) (before : Chunk) (n : ℕ) (restart : Bool) (held : Option (List (List ℕ))) (bytes front : List ℕ) → before.taken + 4 ≤ b.section.end → packet_fault file b.section before.taken ≡ None
@@ -70,9 +70,9 @@ reached_data file b before n restart (Some streams) bytes front there sound is s
     let packet = loaded_packet (logical file) before.taken (Stream n restart) (Some streams) is in
     let has = taken_data file b before.entry before.taken before.fresh (front ++ before.window) reaches there sound (ap (λ (p : Packet). p.is_data) packet) (one (ap (λ (p : Packet). p.restart) packet) same) in
     same_taken file b before.entry (before.taken + length_at (logical file) before.taken) (before.taken + n) false ((front ++ before.window) ++ get_or (packet_at (logical file) before.taken).streams b.field []) (front ++ (before.window ++ bytes))
-      (ap (λ (m : ℕ). before.taken + m) (sym is.1))
-      (ap (λ (p : Packet). (front ++ before.window) ++ get_or p.streams b.field []) packet ∙ ap (λ (xs : List ℕ). (front ++ before.window) ++ xs) (sym read) ∙ append_assoc front before.window bytes)
-      has
+    (ap (λ (m : ℕ). before.taken + m) (sym is.1))
+    (ap (λ (p : Packet). (front ++ before.window) ++ get_or p.streams b.field []) packet ∙ ap (λ (xs : List ℕ). (front ++ before.window) ++ xs) (sym read) ∙ append_assoc front before.window bytes)
+    has
   where
     one : (packet_at (logical file) before.taken).restart ≡ restart → (before.fresh ≡ true) ⊎ (restart ≡ false) → (before.fresh ≡ true) ⊎ ((packet_at (logical file) before.taken).restart ≡ false)
     one e (inl first) = inl first
@@ -132,11 +132,14 @@ takes_empty old new kept now b before n held loads = takes_other old new kept no
 -- fewer than four bytes of the section follow
 pub none_end : (old : SourceView) (b : Bytestream) (before : Chunk) (found : ReadFault) → b.section.end < before.taken + 4 → found ≡ Refused (short_at b before.at) → TakesNone old b before found before old
 none_end old b before found over is = rw is record {
-    same = refl;
-    met = asks_met_none (InNext b before) old;
-    cause = (refl, told_all (λ file. (front : List ℕ) → Reaches file b before front → Finishes file b before.entry before.at (front ++ before.window) (short_at b before.at)) old.held
-        (λ file front reaches. finish_end file b before.entry before.taken before.at before.fresh (front ++ before.window) reaches over));
-  }
+  same = refl;
+  met = asks_met_none (InNext b before) old;
+  cause = (
+    refl,
+    told_all (λ file. (front : List ℕ) → Reaches file b before front → Finishes file b before.entry before.at (front ++ before.window) (short_at b before.at)) old.held
+        (λ file front reaches. finish_end file b before.entry before.taken before.at before.fresh (front ++ before.window) reaches over),
+  );
+}
 
 restart_kind : (test : Bool) (b : Bytestream) (at place : ℕ) → is_walk_kind (if test then fault RestartUnindexed b.section.node place else short_at b at).kind ≡ true
 restart_kind true b at place = refl
@@ -151,25 +154,28 @@ none_next old new kept now b before n restart held found later begins loads is =
     rw is record {
       same = refl;
       met = met_loaded old new kept now b before (Stream n restart) held loads;
-      cause = (restart_kind (b.section.index == 0 && is_none b.fixed) b before.at before.taken,
-          told_both (λ file. packet_fault file b.section before.taken ≡ None) (λ file. IsLoaded (logical file) before.taken (Stream n restart) held) (λ file. (front : List ℕ) → Reaches file b before front → Finishes file b before.entry before.at (front ++ before.window) (restart_at_place b before.at before.taken)) old.held
-          (λ file sound loaded front reaches. finish_next file b before.entry before.taken before.at (front ++ before.window) (rw later at reaches) (omega (arith, some, within)) sound (sym loaded.2 ∙ begins)) loads.sound loads.read);
+      cause = (
+        restart_kind (b.section.index == 0 && is_none b.fixed) b before.at before.taken,
+        told_both (λ file. packet_fault file b.section before.taken ≡ None) (λ file. IsLoaded (logical file) before.taken (Stream n restart) held) (λ file. (front : List ℕ) → Reaches file b before front → Finishes file b before.entry before.at (front ++ before.window) (restart_at_place b before.at before.taken)) old.held
+            (λ file sound loaded front reaches. finish_next file b before.entry before.taken before.at (front ++ before.window) (rw later at reaches) (omega (arith, some, within)) sound (sym loaded.2 ∙ begins)) loads.sound loads.read,
+      );
     }
 
 walk_kind : (kind : Kind) → is_packet_kind kind ≡ true → is_walk_kind kind ≡ true
 walk_kind kind is = rw is
 
 finish_cause : (old : SourceView) (b : Bytestream) (before : Chunk) (found : ReadFault) (new : SourceView) → before.taken + 4 ≤ b.section.end → IsPacketCause old b.section before.taken found new → IsFinishCause old b before found new
-finish_cause old b before (Refused found) new there cause =
-    (walk_kind found.kind cause.0,
-      told_map (λ file. packet_fault file b.section before.taken ≡ Some found) (λ file. (front : List ℕ) → Reaches file b before front → Finishes file b before.entry before.at (front ++ before.window) found) old.held
-      (λ file wrong front reaches. finish_fault file b before.entry before.taken before.at before.fresh (front ++ before.window) found reaches there wrong) cause.1)
+finish_cause old b before (Refused found) new there cause = (
+  walk_kind found.kind cause.0,
+  told_map (λ file. packet_fault file b.section before.taken ≡ Some found) (λ file. (front : List ℕ) → Reaches file b before front → Finishes file b before.entry before.at (front ++ before.window) found) old.held
+      (λ file wrong front reaches. finish_fault file b before.entry before.taken before.at before.fresh (front ++ before.window) found reaches there wrong) cause.1,
+)
 finish_cause old b before Source new there cause = cause
 
 -- the next packet has a fault, or the source failed
 pub none_faulty : (old new : SourceView) (kept now : List ℕ) (b : Bytestream) (before : Chunk) (held : Option (List (List ℕ))) (found : ReadFault) → before.taken + 4 ≤ b.section.end → LosesPacket old kept b.section before.taken found held new now → TakesNone old b before found before new
 none_faulty old new kept now b before held found there loses = record {
-    same = refl;
-    met = next_met old new b before there (packet_met kept before.taken loses.n (λ file. needed_at file b.section before.taken) old new loses.some loses.needed loses.source);
-    cause = finish_cause old b before found new there loses.cause;
-  }
+  same = refl;
+  met = next_met old new b before there (packet_met kept before.taken loses.n (λ file. needed_at file b.section before.taken) old new loses.some loses.needed loses.source);
+  cause = finish_cause old b before found new there loses.cause;
+}

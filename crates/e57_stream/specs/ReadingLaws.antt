@@ -61,8 +61,8 @@ met_on : (old mid new : SourceView) (b : Bytestream) (kind : ItemKind) (first se
 met_on old mid new b kind first second n m q stays at most same stands met =
     asks_met_map (λ file p. IsOf file b kind second → IsMet file b kind second second.at q p) (λ file p. IsOf file b kind first → IsMet file b kind first first.at n p) mid new
     (told_map (λ file. IsOf file b kind first → IsOf file b kind second) (λ file. (p : ℕ) → (IsOf file b kind second → IsMet file b kind second second.at q p) → IsOf file b kind first → IsMet file b kind first first.at n p) mid.held
-      (λ file on p is_met is. met_same file b kind first second first.at n m q p stays most (subst (λ (a : ℕ). IsMet file b kind second a q p) at (is_met (on is))))
-      (told_here (λ file. IsOf file b kind first → IsOf file b kind second) old.held mid.held same stands))
+    (λ file on p is_met is. met_same file b kind first second first.at n m q p stays most (subst (λ (a : ℕ). IsMet file b kind second a q p) at (is_met (on is))))
+    (told_here (λ file. IsOf file b kind first → IsOf file b kind second) old.held mid.held same stands))
     met
 
 items_on : (file : List ℕ) (b : Bytestream) (kind : ItemKind) (first second : Chunk) (n m : ℕ) (front back read : ℕ → Value) → StaysIn b kind first second → second.at ≡ first.at + n
@@ -96,16 +96,16 @@ reads_on old mid new b kind first second third want n m front back read same sam
       near = asks_near_on first.taken second.taken third.taken old mid new f.stays.onward g.stays.onward f.near g.near;
       met = asks_met_on (λ file p. IsOf file b kind first → IsMet file b kind first first.at (min (n + m + 1) want) p) old mid new
           (asks_met_map (λ file p. IsOf file b kind first → IsMet file b kind first first.at (min (n + 1) want) p) (λ file p. IsOf file b kind first → IsMet file b kind first first.at (min (n + m + 1) want) p) old mid
-            (told_all (λ file. (p : ℕ) → (IsOf file b kind first → IsMet file b kind first first.at (min (n + 1) want) p) → IsOf file b kind first → IsMet file b kind first first.at (min (n + m + 1) want) p) old.held
-              (λ file p is_met is. met_more file b kind first first.at (min (n + 1) want) (min (n + m + 1) want) p (omega arith) (is_met is)))
-            f.met)
+          (told_all (λ file. (p : ℕ) → (IsOf file b kind first → IsMet file b kind first first.at (min (n + 1) want) p) → IsOf file b kind first → IsMet file b kind first first.at (min (n + m + 1) want) p) old.held
+          (λ file p is_met is. met_more file b kind first first.at (min (n + 1) want) (min (n + m + 1) want) p (omega arith) (is_met is)))
+          f.met)
           (met_on old mid new b kind first second (min (n + m + 1) want) n (min (m + 1) (want - n)) f.stays at (omega (arith, count)) held f.stands g.met);
       items = told_both (λ file. (IsOf file b kind first → (j : ℕ) → j < n → chunk_item file b kind first (first.at + j) ≡ Ok (front j)) × (IsOf file b kind first → IsOf file b kind second))
           (λ file. IsOf file b kind second → (j : ℕ) → j < m → chunk_item file b kind second (second.at + j) ≡ Ok (back j))
           (λ file. IsOf file b kind first → (j : ℕ) → j < n + m → chunk_item file b kind first (first.at + j) ≡ Ok (read j)) old.held
           (λ file one two is. items_on file b kind first second n m front back read f.stays at same same_too (one.0 is) (two (one.1 is)))
           (told_both (λ file. IsOf file b kind first → (j : ℕ) → j < n → chunk_item file b kind first (first.at + j) ≡ Ok (front j)) (λ file. IsOf file b kind first → IsOf file b kind second)
-            (λ file. (IsOf file b kind first → (j : ℕ) → j < n → chunk_item file b kind first (first.at + j) ≡ Ok (front j)) × (IsOf file b kind first → IsOf file b kind second)) old.held (λ file x y. (x, y)) f.items f.stands)
+          (λ file. (IsOf file b kind first → (j : ℕ) → j < n → chunk_item file b kind first (first.at + j) ≡ Ok (front j)) × (IsOf file b kind first → IsOf file b kind second)) old.held (λ file x y. (x, y)) f.items f.stands)
           (told_here (λ file. IsOf file b kind second → (j : ℕ) → j < m → chunk_item file b kind second (second.at + j) ≡ Ok (back j)) mid.held old.held (sym held) g.items);
       stands = told_both (λ file. IsOf file b kind first → IsOf file b kind second) (λ file. IsOf file b kind second → IsOf file b kind third) (λ file. IsOf file b kind first → IsOf file b kind third) old.held
           (λ file x y is. y (x is)) f.stands (told_here (λ file. IsOf file b kind second → IsOf file b kind third) mid.held old.held (sym held) g.stands);
@@ -113,11 +113,12 @@ reads_on old mid new b kind first second third want n m front back read same sam
 
 cause_on : (old mid new : SourceView) (b : Bytestream) (kind : ItemKind) (first second : Chunk) (i k : ℕ) (found : ReadFault) → StaysIn b kind first second → i ≡ k → mid.held ≡ old.held → old.faults ≤ mid.faults
     → IfSome old.held (λ file. IsOf file b kind first → IsOf file b kind second) → IsItemCause mid b kind second i found new → IsItemCause old b kind first k found new
-cause_on old mid new b kind first second i k (Refused found) stays at held faults stands cause =
-    (cause.0,
-      told_both (λ file. IsOf file b kind first → IsOf file b kind second) (λ file. IsOf file b kind second → chunk_item file b kind second i ≡ Err found) (λ file. IsOf file b kind first → chunk_item file b kind first k ≡ Err found) old.held
+cause_on old mid new b kind first second i k (Refused found) stays at held faults stands cause = (
+  cause.0,
+  told_both (λ file. IsOf file b kind first → IsOf file b kind second) (λ file. IsOf file b kind second → chunk_item file b kind second i ≡ Err found) (λ file. IsOf file b kind first → chunk_item file b kind first k ≡ Err found) old.held
       (λ file on wrong is. ap (chunk_item file b kind first) (sym at) ∙ sym (same_item file b kind first second i stays) ∙ wrong (on is)) stands
-      (told_here (λ file. IsOf file b kind second → chunk_item file b kind second i ≡ Err found) mid.held old.held (sym held) cause.1))
+      (told_here (λ file. IsOf file b kind second → chunk_item file b kind second i ≡ Err found) mid.held old.held (sym held) cause.1),
+)
 cause_on old mid new b kind first second i k Source stays at held faults stands cause = rose_before old.faults mid.faults new.faults faults cause
 
 -- some items, and then a stop
@@ -133,16 +134,16 @@ stops_on old mid new b kind first second third want n m found front back read sa
       stays = stays_on b kind first second third f.stays g.stays;
       met = asks_met_on (λ file p. IsOf file b kind first → IsMet file b kind first first.at (n + m + 1) p) old mid new
           (asks_met_map (λ file p. IsOf file b kind first → IsMet file b kind first first.at (min (n + 1) want) p) (λ file p. IsOf file b kind first → IsMet file b kind first first.at (n + m + 1) p) old mid
-            (told_all (λ file. (p : ℕ) → (IsOf file b kind first → IsMet file b kind first first.at (min (n + 1) want) p) → IsOf file b kind first → IsMet file b kind first first.at (n + m + 1) p) old.held
-              (λ file p is_met is. met_more file b kind first first.at (min (n + 1) want) (n + m + 1) p (omega arith) (is_met is)))
-            f.met)
+          (told_all (λ file. (p : ℕ) → (IsOf file b kind first → IsMet file b kind first first.at (min (n + 1) want) p) → IsOf file b kind first → IsMet file b kind first first.at (n + m + 1) p) old.held
+          (λ file p is_met is. met_more file b kind first first.at (min (n + 1) want) (n + m + 1) p (omega arith) (is_met is)))
+          f.met)
           (met_on old mid new b kind first second (n + m + 1) n (m + 1) f.stays at (omega arith) held f.stands g.met);
       items = told_both (λ file. (IsOf file b kind first → (j : ℕ) → j < n → chunk_item file b kind first (first.at + j) ≡ Ok (front j)) × (IsOf file b kind first → IsOf file b kind second))
           (λ file. IsOf file b kind second → (j : ℕ) → j < m → chunk_item file b kind second (second.at + j) ≡ Ok (back j))
           (λ file. IsOf file b kind first → (j : ℕ) → j < n + m → chunk_item file b kind first (first.at + j) ≡ Ok (read j)) old.held
           (λ file one two is. items_on file b kind first second n m front back read f.stays at same same_too (one.0 is) (two (one.1 is)))
           (told_both (λ file. IsOf file b kind first → (j : ℕ) → j < n → chunk_item file b kind first (first.at + j) ≡ Ok (front j)) (λ file. IsOf file b kind first → IsOf file b kind second)
-            (λ file. (IsOf file b kind first → (j : ℕ) → j < n → chunk_item file b kind first (first.at + j) ≡ Ok (front j)) × (IsOf file b kind first → IsOf file b kind second)) old.held (λ file x y. (x, y)) f.items f.stands)
+          (λ file. (IsOf file b kind first → (j : ℕ) → j < n → chunk_item file b kind first (first.at + j) ≡ Ok (front j)) × (IsOf file b kind first → IsOf file b kind second)) old.held (λ file x y. (x, y)) f.items f.stands)
           (told_here (λ file. IsOf file b kind second → (j : ℕ) → j < m → chunk_item file b kind second (second.at + j) ≡ Ok (back j)) mid.held old.held (sym held) g.items);
       stands = told_both (λ file. IsOf file b kind first → IsOf file b kind second) (λ file. IsOf file b kind second → IsOf file b kind third) (λ file. IsOf file b kind first → IsOf file b kind third) old.held
           (λ file x y is. y (x is)) f.stands (told_here (λ file. IsOf file b kind second → IsOf file b kind third) mid.held old.held (sym held) g.stands);
@@ -152,14 +153,14 @@ stops_on old mid new b kind first second third want n m found front back read sa
 -- nothing yet
 pub reads_nothing : (source : SourceView) (b : Bytestream) (kind : ItemKind) (chunk : Chunk) (want : ℕ) (read : ℕ → Value) → IsWithin b.section (kind_width kind) chunk → ReadsItems source b kind chunk want 0 read chunk source
 reads_nothing source b kind chunk want read within = record {
-    count = omega arith;
-    stays = record { start = refl; until = refl; entry = refl; onward = omega arith; within = within };
-    at = omega arith;
-    near = asks_near_none chunk.taken source;
-    met = asks_met_none (λ file p. IsOf file b kind chunk → IsMet file b kind chunk chunk.at (min (0 + 1) want) p) source;
-    items = told_all (λ file. IsOf file b kind chunk → (j : ℕ) → j < 0 → chunk_item file b kind chunk (chunk.at + j) ≡ Ok (read j)) source.held (λ file is j below. absurd (omega arith));
-    stands = told_all (λ file. IsOf file b kind chunk → IsOf file b kind chunk) source.held (λ file is. is);
-  }
+  count = omega arith;
+  stays = record { start = refl; until = refl; entry = refl; onward = omega arith; within = within };
+  at = omega arith;
+  near = asks_near_none chunk.taken source;
+  met = asks_met_none (λ file p. IsOf file b kind chunk → IsMet file b kind chunk chunk.at (min (0 + 1) want) p) source;
+  items = told_all (λ file. IsOf file b kind chunk → (j : ℕ) → j < 0 → chunk_item file b kind chunk (chunk.at + j) ≡ Ok (read j)) source.held (λ file is j below. absurd (omega arith));
+  stands = told_all (λ file. IsOf file b kind chunk → IsOf file b kind chunk) source.held (λ file is. is);
+}
 
 -- ---- items that are found in what was taken
 
@@ -236,18 +237,18 @@ gone_bytes file b w chunk is = append_assoc is.front (take (whole_bytes chunk) c
 next_met : (file : List ℕ) (b : Bytestream) (kind : ItemKind) (chunk : Chunk) (n p : ℕ) → 0 < n → AreNumbers kind → Lacks kind chunk → IsOf file b kind chunk → InNext b (let_gone chunk) file p → IsMet file b kind chunk chunk.at n p
 unfolding let_gone lacks_item
 next_met file b kind chunk n p some numbers lacks is next = record {
-    i = chunk.at;
-    after = omega arith;
-    before = omega (arith, some);
-    way = record {
-      before = is.reaches.packets;
-      q = chunk.taken;
-      walked = front-walked file b.section chunk.entry is.reaches.packets chunk.taken is.reaches.leads is.reaches.one_chunk;
-      there = next.0;
-      wanting = rw (is.reaches.stream, lacks_next file b kind chunk is numbers lacks) refl;
-      within = next.1;
-    };
-  }
+  i = chunk.at;
+  after = omega arith;
+  before = omega (arith, some);
+  way = record {
+    before = is.reaches.packets;
+    q = chunk.taken;
+    walked = front-walked file b.section chunk.entry is.reaches.packets chunk.taken is.reaches.leads is.reaches.one_chunk;
+    there = next.0;
+    wanting = rw (is.reaches.stream, lacks_next file b kind chunk is numbers lacks) refl;
+    within = next.1;
+  };
+}
 
 next_asked : (old new : SourceView) (b : Bytestream) (kind : ItemKind) (chunk : Chunk) (n : ℕ) → 0 < n → AreNumbers kind → Lacks kind chunk → AsksMet (InNext b (let_gone chunk)) old new → AsksMet (λ file p. IsOf file b kind chunk → IsMet file b kind chunk chunk.at n p) old new
 next_asked old new b kind chunk n some numbers lacks met =
@@ -289,14 +290,15 @@ short_cause : (old new : SourceView) (b : Bytestream) (kind : ItemKind) (before 
 unfolding let_gone
 short_cause old new b kind before (Refused found) low numbers lacks cause =
     let kinds = cause.0 in
-    let none : before.at + 0 ≡ before.at = omega arith in
-    (rw kinds refl,
+    let none : before.at + 0 ≡ before.at = omega arith in (
+      rw kinds refl,
       told_map (λ file. (front : List ℕ) → Reaches file b (let_gone before) front → Finishes file b before.entry before.at (front ++ (let_gone before).window) found) (λ file. IsOf file b kind before → chunk_item file b kind before (before.at + 0) ≡ Err found) old.held
-      (λ file ends is.
-        let gone = stands_gone file b (kind_width kind) before is in
-        let whole = gone_bytes file b (kind_width kind) before is in
-        let finishes = subst (λ (xs : List ℕ). Finishes file b before.entry before.at xs found) whole (ends gone.front gone.reaches) in
-        ap (chunk_item file b kind before) none ∙ chunk_short file b kind before (is.front ++ before.window) found low finishes (lacks_next file b kind before is numbers lacks)) cause.1)
+          (λ file ends is.
+          let gone = stands_gone file b (kind_width kind) before is in
+          let whole = gone_bytes file b (kind_width kind) before is in
+          let finishes = subst (λ (xs : List ℕ). Finishes file b before.entry before.at xs found) whole (ends gone.front gone.reaches) in
+          ap (chunk_item file b kind before) none ∙ chunk_short file b kind before (is.front ++ before.window) found low finishes (lacks_next file b kind before is numbers lacks)) cause.1,
+    )
 short_cause old new b kind before Source low numbers lacks cause = cause
 
 -- Where the window ends before the next item and no packet was taken, the read stops.
@@ -321,6 +323,7 @@ stops_short old new b kind before after want found read numbers some within lack
       stands = told_all (λ file. IsOf file b kind before → IsOf file b kind (let_gone before)) old.held (λ file is. stands_gone file b (kind_width kind) before is);
       cause = short_cause old new b kind before found low numbers lacks none.cause;
     })
+
 -- ---- items of the window
 
 -- The next m items are in the window, whatever comes before it.
@@ -374,6 +377,9 @@ stops_out source b kind before want k found read below within each out is =
       met = asks_met_none (λ file p. IsOf file b kind before → IsMet file b kind before before.at (k + 1) p) source;
       items = told_all (λ file. IsOf file b kind before → (j : ℕ) → j < k → chunk_item file b kind before (before.at + j) ≡ Ok (read j)) source.held (λ file of j near. items_here file b kind before k read low each of j near);
       stands = told_all (λ file. IsOf file b kind before → IsOf file b kind before) source.held (λ file of. of);
-      cause = (refl, told_all (λ file. IsOf file b kind before → chunk_item file b kind before (before.at + k) ≡ Err (fault ValueRange (before.at + k) b.node)) source.held
-          (λ file of. chunk_out file b kind before (of.front ++ before.window) (before.at + k) (omega (arith, low)) of.reaches (rw number (out of.front of.begins))));
+      cause = (
+        refl,
+        told_all (λ file. IsOf file b kind before → chunk_item file b kind before (before.at + k) ≡ Err (fault ValueRange (before.at + k) b.node)) source.held
+            (λ file of. chunk_out file b kind before (of.front ++ before.window) (before.at + k) (omega (arith, low)) of.reaches (rw number (out of.front of.begins))),
+      );
     })

@@ -150,7 +150,8 @@ taken_first file b entry q fresh bytes has =
     let rest = walk_from file b.section q in
     let walk = front-walk file b.section entry has.packets q has.leads in
     let (later, is) = chunk_front (data_packets has.packets) (data_packets rest.packets) has.one_chunk in
-    let all : data_packets (walk_from file b.section entry).packets ≡ data_packets has.packets ++ data_packets rest.packets = ap (λ (w : Walk). data_packets w.packets) walk ∙ data-append has.packets rest.packets in
-    (stream_of b.field later,
+    let all : data_packets (walk_from file b.section entry).packets ≡ data_packets has.packets ++ data_packets rest.packets = ap (λ (w : Walk). data_packets w.packets) walk ∙ data-append has.packets rest.packets in (
+      stream_of b.field later,
       ap (stream_of b.field) (stretch_first (walk_from file b.section entry).fault (by_chunk (data_packets (walk_from file b.section entry).packets)) ∙ ap (λ (ps : List Packet). first_piece (by_chunk ps)) all ∙ is)
-      ∙ stream_of-append b.field (data_packets has.packets) later ∙ ap (λ (xs : List ℕ). xs ++ stream_of b.field later) has.stream)
+          ∙ stream_of-append b.field (data_packets has.packets) later ∙ ap (λ (xs : List ℕ). xs ++ stream_of b.field later) has.stream,
+    )

@@ -32,7 +32,11 @@ pub fn let_go(chunk: &mut Chunk)
 {
     let held = chunk.window.len();
     let whole = chunk.bit / 8;
-    let gone = if whole < held as u64 { whole as usize } else { held };
+    let gone = if whole < held as u64 {
+        whole as usize
+    } else {
+        held
+    };
     chunk.window.skip(gone);
     chunk.bit -= 8 * gone as u64;
 }

@@ -67,7 +67,11 @@ pub(crate) fn wanted(chunk: &Chunk, places: usize) -> usize
     ensures { result ≡ the_wanted chunk.now places }
 {
     let left = chunk.until - chunk.at;
-    if left < places as u64 { left as usize } else { places }
+    if left < places as u64 {
+        left as usize
+    } else {
+        places
+    }
 }
 
 /// Reads the items that the window has, or takes a packet where it has none.
@@ -142,7 +146,11 @@ fn take_integers(range: &Integers, chunk: &mut Chunk, out: &mut [i64]) -> Result
 {
     let held = items_held(chunk, range.width);
     let until = chunk.until;
-    let count = if held < out.len() as u64 { held as usize } else { out.len() };
+    let count = if held < out.len() as u64 {
+        held as usize
+    } else {
+        out.len()
+    };
     prove!(count as u64 <= until);
     if count == 0 {
         return Ok(0);

@@ -93,7 +93,11 @@ fn restarted(stream: &Bytestream, at: u64, place: u64) -> ReadFault
     ensures { result ≡ ReadFault.Refused (restart_at_place stream.now at place) }
 {
     if stream.section.index == 0 && stream.fixed.is_none() {
-        return ReadFault::Refused(Fault::new(Kind::RestartUnindexed, stream.section.node as u64, place));
+        return ReadFault::Refused(Fault::new(
+            Kind::RestartUnindexed,
+            stream.section.node as u64,
+            place,
+        ));
     }
     short(stream, at)
 }

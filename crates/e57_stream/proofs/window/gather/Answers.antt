@@ -22,5 +22,5 @@ returns c =
     record {
       front = take-put_mid (c.args.end - c.args.begin) (c.args.end - c.args.begin + length c.args.more.now - (c.args.end - c.args.begin)) c.copy_within.new.self c.copy_from_slice.new.self (c.args.end - c.args.begin + length c.args.more.now) size (omega (arith, len, fits))
           ∙ ap (λ (xs : List ℕ). take (c.args.end - c.args.begin) c.copy_within.new.self ++ xs) same
-          ∙ ap (λ (xs : List ℕ). xs ++ c.args.more.now) (ap (take (c.args.end - c.args.begin)) now ∙ moved c.args.buffer.now c.args.begin c.args.end order within)
+          ∙ ap (λ (xs : List ℕ). xs ++ c.args.more.now) (ap (take (c.args.end - c.args.begin)) now ∙ moved c.args.buffer.now c.args.begin c.args.end order within);
     }
