@@ -1,7 +1,7 @@
 //! A buffer for a data packet.
 
 ghost use Rattle.std.specs.Prelude.{◌≡◌, ◌<◌, ◌≤◌, None, length, get_or, [], IfSome, IfOk, IsSomeAnd};
-ghost use Rattle.e57_section.specs.Streams.{first_stream, stream_begin as the_stream_begin};
+ghost use Rattle.e57_section.specs.Streams.{most_bytes, first_stream, stream_begin as the_stream_begin};
 
 use std::alloc::{AllocError, Global};
 use std::marker::Model;
@@ -48,10 +48,11 @@ impl Packet {
         })
     }
 
-    /// The bytes of the stream of field `f`. A data packet is held, and it has this field.
+    /// The bytes of the stream of field `f`, at most 65,536. A data packet is held, and it has this field.
     pub fn stream(&self, f: u16) -> &[u8]
         requires { IsSomeAnd self.now (λ streams. f < length streams) }
-        ensures { IfSome self.now (λ streams. result.now ≡ get_or streams f []) }
+        ensures few { length result.now ≤ most_bytes }
+        ensures bytes { IfSome self.now (λ streams. result.now ≡ get_or streams f []) }
     {
         let f = f as usize;
         let begin = stream_begin(self.fields.unwrap_or(0), &self.ends, f);

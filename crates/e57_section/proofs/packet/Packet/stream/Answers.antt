@@ -51,8 +51,8 @@ slice_bounds-result-end c =
     let bound : c.index.result.now ≤ length c.deref-2.result.now = omega (arith, within, room, end) in
     bound
 
-pub returns : goal.returns
-returns c =
+pub returns-clause-bytes : goal.returns-clause-bytes
+returns-clause-bytes c =
     let facts = has_stream c.self.inside.fields c.self.inside.ends.items c.self.inside.bytes.items c.args.self.now c.args.f c.self.invariant c.self.view_is c.requires in
     let room = c.self.invariant.ends_room in
     let index = facts.index in

@@ -1,0 +1,15 @@
+//! The stream of one field over the packets of one chunk (ASTM E2807, data packets and bytestreams), read packet by packet
+//! into buffers that the caller lends.
+#![tactic(auto)]
+
+mod bytestream;
+mod chunk;
+mod integers;
+mod taking;
+mod window;
+
+pub use bytestream::{Bytestream, Integers, Stopped};
+pub use chunk::{Chunk, let_go};
+pub use integers::read_integers;
+pub use taking::take_packet;
+pub use window::Window;
