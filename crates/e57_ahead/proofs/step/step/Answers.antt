@@ -40,7 +40,7 @@ another-requires-clause-room g c =
 pub returns-then-reached-clause-step : goal.returns-then-reached-clause-step
 returns-then-reached-clause-step g c =
     let loads = rw c.in-Stream.is at c.in-Ok.ensures.packet in
-    another-packet (g.S.Source.view c.args.pages.now.source) (g.S.Source.view c.load_packet.new.pages.source) c.args.section.now c.args.fixed c.args.reached c.in-Stream.length c.in-Stream.restart c.args.pages.now.kept c.load_packet.new.pages.kept c.load_packet.new.buf c.stream.result.now c.another.result c.if-restart.true c.if-reached.true c.stream.ensures c.requires.within c.requires.there loads c.another.ensures
+    another-packet (g.S.Source.view c.args.pages.now.source) (g.S.Source.view c.load_packet.new.pages.source) c.args.section.now c.args.fixed c.args.reached c.in-Stream.length c.in-Stream.restart c.args.pages.now.kept c.load_packet.new.pages.kept c.load_packet.new.buf c.stream.result.now c.another.result c.if-restart.true c.if-reached.true c.stream.ensures.bytes c.requires.within c.requires.there loads c.another.ensures
 
 pub overflow_add-result : goal.overflow_add-result
 overflow_add-result g c =
@@ -53,7 +53,7 @@ overflow_add-result-2 g c =
     let loads = rw c.in-Stream.is at c.in-Ok.ensures.packet in
     let within = loads.within in
     let counted = c.requires.within.counted in
-    let short = stream-short c.args.section.now c.in-Stream.length c.in-Stream.restart c.load_packet.new.buf c.args.fixed.field c.stream.result.now loads.streams c.stream.ensures in
+    let short = stream-short c.args.section.now c.in-Stream.length c.in-Stream.restart c.load_packet.new.buf c.args.fixed.field c.stream.result.now loads.streams c.stream.ensures.bytes in
     omega (arith, within, counted, short)
 
 pub returns-clause-step : goal.returns-clause-step
@@ -64,4 +64,4 @@ returns-clause-step g c =
       | else-restart-via-then-restart+else-reached w ↦ rw w.if-reached.false (and-false c.in-Stream.restart)
       | else-restart-via-else-restart w ↦ rw w.if-restart.false refl
     ] in
-    more-packet (g.S.Source.view c.args.pages.now.source) (g.S.Source.view c.load_packet.new.pages.source) c.args.section.now c.args.fixed c.args.reached c.in-Stream.length c.in-Stream.restart c.args.pages.now.kept c.load_packet.new.pages.kept c.load_packet.new.buf c.stream.result.now off c.stream.ensures c.requires.within c.requires.there loads
+    more-packet (g.S.Source.view c.args.pages.now.source) (g.S.Source.view c.load_packet.new.pages.source) c.args.section.now c.args.fixed c.args.reached c.in-Stream.length c.in-Stream.restart c.args.pages.now.kept c.load_packet.new.pages.kept c.load_packet.new.buf c.stream.result.now off c.stream.ensures.bytes c.requires.within c.requires.there loads
