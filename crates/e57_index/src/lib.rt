@@ -9,3 +9,6 @@ mod start;
 mod target;
 
 pub use cursor::{Found, IndexCursor};
+
+#[cfg(test)]
+mod tests;
