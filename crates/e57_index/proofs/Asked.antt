@@ -1,9 +1,8 @@
 -- The pages of one read after another.
 use Rattle.std.specs.Prelude.{◌≡◌, ℕ, ◌+◌, ◌-◌, ◌/◌, ◌<◌, ◌≤◌, List, [], ◌∷◌, ◌++◌, length, Option, Some, None, IfSome}
 use Rattle.std.specs.List.{AllByRecursion}
-use Rattle.std.proofs.Common.{refl, sym, subst, arith}
+use Rattle.std.proofs.Common.{sym, subst, arith}
 use Rattle.std.proofs.lemmas.Bool.Decides.{nat_tests}
-use Rattle.e57_base.specs.Count.{Rose}
 use Rattle.e57_base.specs.Told.{told_map, told_both, told_here}
 use Rattle.e57_base.specs.Source.{SourceView}
 use Rattle.e57_base.specs.declared.fault.Fault.{Fault}
@@ -11,9 +10,8 @@ use Rattle.e57_base.specs.declared.fault.ReadFault.{ReadFault}
 use Rattle.e57_base.specs.declared.fault.ReadFault.TheVariants.{Refused, Source}
 use Rattle.e57_page.specs.declared.pages.Cut.{Cut}
 use Rattle.e57_page.specs.Place.{span_end, RisesWithin}
-use Rattle.e57_page.specs.File.{span_fault}
 use Rattle.e57_page.specs.Pages.{AsksUnkept, IsStopped, IsCutAt}
-use Rattle.e57_page.specs.PagesLaws.{asks_for_none, asks_for_on, cut_asks, cut_fault, cut_source}
+use Rattle.e57_page.specs.PagesLaws.{asks_for_none, asks_for_on, cut_fault, cut_source}
 use Rattle.e57_layout.specs.declared.section.Section.{Section}
 use Rattle.e57_sections.specs.Met.{InSpan}
 use Rattle.e57_base.specs.declared.kind.Kind.TheVariants.{Page}

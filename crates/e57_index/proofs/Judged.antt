@@ -1,7 +1,7 @@
 -- The first fault of one index packet, from its start, its level, its entries' pages and their order.
-use Rattle.std.specs.Prelude.{◌≡◌, ℕ, ◌+◌, ◌*◌, ◌%◌, ◌==◌, ◌||◌, not, nat_lt, Bool, true, false, List, Option, Some, None}
+use Rattle.std.specs.Prelude.{◌≡◌, ℕ, ◌+◌, ◌*◌, ◌%◌, ◌==◌, not, nat_lt, Bool, true, false, List, Option, Some, None}
 use Rattle.std.specs.Option.{option_or}
-use Rattle.std.proofs.Common.{refl, sym, subst, ap, ◌∙◌, arith}
+use Rattle.std.proofs.Common.{refl, sym, ◌∙◌}
 use Rattle.std.proofs.lemmas.Bool.{eqb-true, or_right}
 use Rattle.e57_base.specs.declared.fault.Fault.{Fault}
 use Rattle.e57_base.specs.declared.kind.Kind.TheVariants.{IndexShape, IndexOrder}
@@ -14,7 +14,7 @@ use Rattle.e57_layout.specs.IndexPackets.{index_size, entry_count_at, level_at}
 use Rattle.e57_layout.specs.declared.packet.Entry.{Entry}
 use Rattle.e57_layout.specs.declared.section.Section.{Section}
 use Rattle.e57_sections.specs.Section.{when}
-use Rattle.e57_sections.specs.Index.{highest_level, known_place, entries_of, begins_and_rises, is_misshapen_index, index_start_fault, index_shape_fault, index_packet_fault}
+use Rattle.e57_sections.specs.Index.{highest_level, known_place, begins_and_rises, is_misshapen_index, index_start_fault, index_shape_fault, index_packet_fault}
 use Rattle.e57_sections.specs.Laws.Spans.{or-none}
 use Rattle.e57_index.specs.OnePacket.{level_fits, level_of, start_fault, wanted_fault, IsPacketAt}
 

@@ -1,29 +1,27 @@
 -- The reading of one index packet, step by step.
-use Rattle.std.specs.Prelude.{◌≡◌, ℕ, ◌+◌, ◌-◌, ◌*◌, ◌/◌, ◌<◌, ◌≤◌, Bool, true, false, List, length, take, drop, Option, Some, None, IfSome}
-use Rattle.std.proofs.Common.{refl, sym, subst, ap, ◌∙◌, arith, inl, inr}
-use Rattle.e57_base.specs.Count.{Rose, rose_before}
+use Rattle.std.specs.Prelude.{◌≡◌, ℕ, ◌+◌, ◌*◌, ◌/◌, true, false, List, take, drop, Option, Some, None, IfSome}
+use Rattle.std.proofs.Common.{refl, sym, ap, arith, inl, inr}
+use Rattle.e57_base.specs.Count.{rose_before}
 use Rattle.e57_base.specs.Fault.{fault}
 use Rattle.e57_base.specs.Source.{SourceView}
 use Rattle.e57_base.specs.Told.{told_map, told_both, told_here}
-use Rattle.e57_base.specs.declared.fault.Fault.{Fault}
 use Rattle.e57_base.specs.declared.fault.ReadFault.{ReadFault}
 use Rattle.e57_base.specs.declared.fault.ReadFault.TheVariants.{Refused, Source}
-use Rattle.e57_base.specs.declared.kind.Kind.{Kind}
-use Rattle.e57_base.specs.declared.kind.Kind.TheVariants.{Page, IndexShape, IndexOrder}
+use Rattle.e57_base.specs.declared.kind.Kind.TheVariants.{IndexShape, IndexOrder}
 use Rattle.e57_page.specs.Place.{place, span_end}
 use Rattle.e57_page.specs.File.{logical, span_fault}
 use Rattle.e57_page.specs.Pages.{AsksUnkept}
-use Rattle.e57_layout.specs.IndexPackets.{entry_count_at, level_at, entries_at}
+use Rattle.e57_layout.specs.IndexPackets.{entry_count_at, entries_at}
 use Rattle.e57_layout.specs.declared.packet.Entry.{Entry}
 use Rattle.e57_layout.specs.declared.section.Section.{Section}
 use Rattle.e57_sections.specs.Section.{or_zero}
 use Rattle.e57_sections.specs.Index.{known_place, entries_of, begins_and_rises, index_shape_fault}
-use Rattle.e57_sections.specs.Met.{InSpan, InIndexStart, InEntries}
+use Rattle.e57_sections.specs.Met.{InSpan, InIndexStart}
 use Rattle.e57_section.specs.Steps.{IsSpanCause}
 use Rattle.e57_index.specs.declared.start.Start.{Start}
 use Rattle.e57_index.specs.Asking.{AsksMet}
-use Rattle.e57_index.specs.OnePacket.{level_fits, level_of, start_fault, wanted_fault, OnPacket, IsPacketAt}
-use Rattle.e57_index.specs.Reading.{is_index_kind, AsksStart, IsStartAt, IsStartCause, ReadsStart, LosesStart, IsIndexCause, ReadsIndex, LosesIndex}
+use Rattle.e57_index.specs.OnePacket.{level_fits, wanted_fault, OnPacket, IsPacketAt}
+use Rattle.e57_index.specs.Reading.{AsksStart, IsStartAt, ReadsStart, LosesStart, ReadsIndex, LosesIndex}
 use Rattle.e57_index.proofs.Moved.{entries-piece}
 use Rattle.e57_index.proofs.Asked.{told_each, asks_met-on, asks_met-by, asks_met-span}
 use Rattle.e57_index.proofs.Judged.{level_is, start_none, level_fault, early_fault, late_fault, order_fault}

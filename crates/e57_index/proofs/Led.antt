@@ -1,12 +1,12 @@
 -- The path of a record through the packets that lead to it.
-use Rattle.std.specs.Prelude.{◌≡◌, ℕ, suc, ◌+◌, ◌<◌, ◌≤◌, ◌==◌, ◌⊎◌, true, false, List, [], ◌∷◌, Option, Some, None, Result, Ok, Err}
+use Rattle.std.specs.Prelude.{◌≡◌, ℕ, suc, ◌<◌, ◌≤◌, ◌==◌, false, List, [], ◌∷◌, Option, Some, None, Result, Ok, Err}
 use Rattle.std.specs.Option.{option_or}
-use Rattle.std.proofs.Common.{refl, sym, subst, ap, ◌∙◌, arith, inl, inr, ⊎_elim}
+use Rattle.std.proofs.Common.{refl, ◌∙◌, arith, inl, inr, ⊎_elim}
 use Rattle.std.proofs.lemmas.Bool.{eqb-false}
 use Rattle.e57_base.specs.declared.fault.Fault.{Fault}
 use Rattle.e57_layout.specs.declared.packet.Entry.{Entry}
 use Rattle.e57_layout.specs.declared.section.Section.{Section}
-use Rattle.e57_sections.specs.Index.{known_place, entries_of, begins_and_rises, index_packet_fault, target_fault, root_fault, root_level, root_entry}
+use Rattle.e57_sections.specs.Index.{known_place, entries_of, index_packet_fault, target_fault, root_fault, root_level, root_entry}
 use Rattle.e57_sections.specs.PathItem.{ChunkAt, unless, by_entry, descend, path}
 use Rattle.e57_sections.specs.Met.{InIndexStart, InEntries, InTarget, OnPicked, OnDescent, OnPath}
 use Rattle.e57_sections.specs.Laws.Spans.{or-none}

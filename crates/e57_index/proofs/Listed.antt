@@ -1,10 +1,8 @@
 -- Entries of an index packet one by one.
-use Rattle.std.proofs.Common.{◌≡◌, ℕ, zero, suc, ◌+◌, ◌-◌, ◌*◌, ◌<◌, ◌≤◌, Bool, true, false, List, [], ◌∷◌, refl, ap, ◌∙◌, sym, arith, inl, inr}
-use Rattle.std.specs.Prelude.{◌==◌, ◌&&◌, nat_le, nat_lt}
+use Rattle.std.proofs.Common.{◌≡◌, ℕ, zero, suc, ◌+◌, ◌-◌, ◌*◌, ◌<◌, ◌≤◌, true, false, List, [], ◌∷◌, refl, arith, inl, inr}
 use Rattle.std.proofs.lemmas.Bool.{lt-ltb, le-ltb, lt-leb, le-leb, eq-eqb, ne_eqb}
 use Rattle.e57_layout.specs.IndexPackets.{entry_at, entries_at}
-use Rattle.e57_layout.specs.declared.packet.Entry.{Entry}
-use Rattle.e57_sections.specs.Index.{rises, begins_and_rises, next_first}
+use Rattle.e57_sections.specs.Index.{rises, begins_and_rises}
 use Rattle.e57_sections.specs.Laws.Descents.{HasEntry}
 
 pub entries-zero : (b : List ℕ) (q : ℕ) → entries_at b q 0 ≡ []

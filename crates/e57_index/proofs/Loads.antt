@@ -1,23 +1,19 @@
 -- The packet that a cursor holds after a load.
-use Rattle.std.specs.Prelude.{◌≡◌, ℕ, ◌+◌, ◌*◌, ◌<◌, ◌≤◌, ◌==◌, Bool, true, false, List, take, Option, Some, None, IfSome}
-use Rattle.std.proofs.Common.{refl, sym, subst, ap, ◌∙◌, arith, inl, inr}
-use Rattle.std.proofs.lemmas.Bool.{eqb-true}
+use Rattle.std.specs.Prelude.{◌≡◌, ℕ, ◌*◌, true, false, List, take, Option, Some, None, IfSome}
+use Rattle.std.proofs.Common.{refl, subst}
 use Rattle.e57_base.specs.Fault.{fault}
 use Rattle.e57_base.specs.Source.{SourceView}
 use Rattle.e57_base.specs.Told.{told_map}
-use Rattle.e57_base.specs.declared.fault.Fault.{Fault}
 use Rattle.e57_base.specs.declared.fault.ReadFault.{ReadFault}
 use Rattle.e57_base.specs.declared.fault.ReadFault.TheVariants.{Refused, Source}
 use Rattle.e57_base.specs.declared.kind.Kind.TheVariants.{IndexShape, IndexOrder}
 use Rattle.e57_layout.specs.declared.packet.Entry.{Entry}
 use Rattle.e57_layout.specs.declared.packet.IndexHead.{IndexHead}
-use Rattle.e57_layout.specs.declared.section.Section.{Section}
 use Rattle.e57_sections.specs.Index.{begins_and_rises}
-use Rattle.e57_index.specs.Asking.{AsksMet}
 use Rattle.e57_index.specs.OnePacket.{level_fits, wanted_fault, OnPacket, IsPacketAt}
-use Rattle.e57_index.specs.Reading.{is_index_kind, ReadsIndex, LosesIndex}
+use Rattle.e57_index.specs.Reading.{ReadsIndex, LosesIndex}
 use Rattle.e57_index.specs.Standing.{HeldPacket, Cursor, IsOfFile, StandsIn}
-use Rattle.e57_index.specs.Holding.{front_entries, holds_place, LoadsIndex, LosesLoad}
+use Rattle.e57_index.specs.Holding.{front_entries, LoadsIndex, LosesLoad}
 use Rattle.e57_index.proofs.Asked.{told_each, asks_met-none}
 use Rattle.e57_index.proofs.Judged.{level_fault, order_fault}
 

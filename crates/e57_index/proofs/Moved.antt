@@ -1,8 +1,8 @@
 -- What is read of a piece of bytes is what is read where the piece stands.
-use Rattle.std.proofs.Common.{◌≡◌, ℕ, zero, suc, ◌+◌, ◌*◌, ◌≤◌, List, [], ◌∷◌, take, drop, refl, ap, ◌∙◌, arith, lit≤}
+use Rattle.std.proofs.Common.{◌≡◌, ℕ, zero, suc, ◌+◌, ◌*◌, ◌≤◌, List, take, drop, refl, ap, ◌∙◌, arith}
 use Rattle.e57_bits.specs.Bits.{number}
 use Rattle.e57_bits.specs.BitLaws.{number-take, number-drop}
-use Rattle.e57_layout.specs.Packets.{sort_at, length_at, restart_at}
+use Rattle.e57_layout.specs.Packets.{sort_at, length_at}
 use Rattle.e57_layout.specs.IndexPackets.{entry_count_at, level_at, entry_at, entries_at}
 
 pub number-piece : (b : List ℕ) (q n t u w : ℕ) → t + w ≤ 8 * n → u ≡ 8 * q + t → number (take n (drop q b)) t w ≡ number b u w

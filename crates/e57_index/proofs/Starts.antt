@@ -1,15 +1,13 @@
 -- The first fault of the first 16 bytes of an index packet, from those bytes.
-use Rattle.std.specs.Prelude.{◌≡◌, ℕ, ◌+◌, ◌-◌, ◌*◌, ◌%◌, ◌<◌, ◌≤◌, ◌==◌, ◌||◌, ◌⊎◌, not, nat_lt, Bool, true, false, List, length, take, drop, Option, Some, None, IfSome, IsSomeAnd}
-use Rattle.std.specs.Option.{option_or}
+use Rattle.std.specs.Prelude.{◌≡◌, ℕ, ◌+◌, ◌-◌, ◌*◌, ◌%◌, ◌<◌, ◌≤◌, ◌==◌, ◌||◌, not, nat_lt, Bool, true, false, List, take, drop, Some, None, IfSome}
 use Rattle.std.proofs.Common.{refl, sym, subst, ap, ◌∙◌, arith, lit≤, ⊎_elim}
-use Rattle.std.proofs.lemmas.Bool.{lt-ltb, le-ltb, eq-eqb, ltb-true, ltb-false, eqb-true, or_parts, or_left, eqb-false, cases_Bool}
+use Rattle.std.proofs.lemmas.Bool.{lt-ltb, le-ltb, eq-eqb, ltb-true, ltb-false, or_parts, or_left, eqb-false, cases_Bool}
 use Rattle.e57_base.specs.Fault.{fault}
 use Rattle.e57_base.specs.Source.{SourceView}
 use Rattle.e57_base.specs.Told.{told_map, told_both}
 use Rattle.e57_base.specs.declared.fault.Fault.{Fault}
 use Rattle.e57_base.specs.declared.fault.ReadFault.{ReadFault}
 use Rattle.e57_base.specs.declared.fault.ReadFault.TheVariants.{Refused, Source}
-use Rattle.e57_base.specs.declared.kind.Kind.{Kind}
 use Rattle.e57_base.specs.declared.kind.Kind.TheVariants.{Page, IndexShape}
 use Rattle.e57_page.specs.Place.{place}
 use Rattle.e57_page.specs.File.{logical, span_fault}
@@ -19,7 +17,7 @@ use Rattle.e57_layout.specs.IndexPackets.{entry_count_at, level_at, index_size}
 use Rattle.e57_layout.specs.Written.{entries_limit}
 use Rattle.e57_packet.specs.Reading.{is_misshapen_index as is_misshapen_start}
 use Rattle.e57_sections.specs.Section.{when}
-use Rattle.e57_sections.specs.Index.{known_place, is_misshapen_index, index_shape_fault}
+use Rattle.e57_sections.specs.Index.{is_misshapen_index, index_shape_fault}
 use Rattle.e57_section.specs.Steps.{IsSpanCause}
 use Rattle.e57_index.specs.Reading.{is_index_kind, IsStartAt, IsStartCause}
 use Rattle.e57_index.proofs.Moved.{sort-piece, length-piece, count-piece, level-piece}

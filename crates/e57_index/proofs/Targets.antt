@@ -1,12 +1,10 @@
 -- The first fault of what an entry of height 0 names, from the four bytes there.
-use Rattle.std.specs.Prelude.{◌≡◌, ℕ, ◌+◌, ◌*◌, ◌/◌, ◌%◌, ◌<◌, ◌≤◌, ◌==◌, ◌&&◌, ◌||◌, not, nat_lt, Bool, true, false, List, length, take, drop, Option, Some, None, IfSome}
-use Rattle.std.specs.Option.{option_or}
-use Rattle.std.proofs.Common.{refl, sym, subst, ap, ◌∙◌, arith, lit≤}
+use Rattle.std.specs.Prelude.{◌≡◌, ℕ, ◌+◌, ◌*◌, ◌/◌, ◌%◌, ◌<◌, ◌≤◌, ◌==◌, ◌&&◌, ◌||◌, not, Bool, true, false, List, take, drop, Some, None, IfSome}
+use Rattle.std.proofs.Common.{refl, sym, subst, ◌∙◌, arith, lit≤}
 use Rattle.std.proofs.lemmas.Bool.{lt-ltb, le-ltb}
 use Rattle.e57_base.specs.Fault.{fault}
 use Rattle.e57_base.specs.Source.{SourceView}
 use Rattle.e57_base.specs.Told.{told_map, told_both}
-use Rattle.e57_base.specs.declared.fault.Fault.{Fault}
 use Rattle.e57_base.specs.declared.fault.ReadFault.{ReadFault}
 use Rattle.e57_base.specs.declared.fault.ReadFault.TheVariants.{Refused, Source}
 use Rattle.e57_base.specs.declared.kind.Kind.TheVariants.{IndexTarget}

@@ -1,6 +1,6 @@
 -- The steps of a search: down from the root, packet by packet, and to the chunk.
-use Rattle.std.specs.Prelude.{◌≡◌, ℕ, zero, suc, ◌+◌, ◌*◌, ◌<◌, ◌≤◌, ◌==◌, ◌&&◌, Bool, true, false, List, [], ◌∷◌, Option, Some, None, IfSome, IsSomeAnd, MatchResult, Result, Ok, Err}
-use Rattle.std.proofs.Common.{refl, sym, subst, ap, ◌∙◌, arith, inl, inr}
+use Rattle.std.specs.Prelude.{◌≡◌, ℕ, zero, suc, ◌<◌, ◌≤◌, ◌==◌, true, false, List, [], ◌∷◌, Option, Some, None, IfSome, IsSomeAnd, MatchResult, Result, Ok, Err}
+use Rattle.std.proofs.Common.{refl, sym, subst, ap, arith}
 use Rattle.std.proofs.lemmas.Bool.{eqb-true, eq-eqb, and_parts, false≢true}
 use Rattle.e57_base.specs.Count.{rose_before}
 use Rattle.e57_base.specs.Source.{SourceView}
@@ -13,7 +13,7 @@ use Rattle.e57_layout.specs.declared.packet.Entry.{Entry}
 use Rattle.e57_layout.specs.declared.section.Section.{Section}
 use Rattle.e57_sections.specs.Section.{or_zero}
 use Rattle.e57_page.specs.Place.{place}
-use Rattle.e57_sections.specs.Index.{known_place, entries_of, begins_and_rises, rises, index_packet_fault, target_fault, root_entry, root_level, next_first}
+use Rattle.e57_sections.specs.Index.{known_place, begins_and_rises, rises, target_fault, root_entry, root_level, next_first}
 use Rattle.e57_sections.specs.PathItem.{path}
 use Rattle.e57_sections.specs.Met.{InTarget, OnPath}
 use Rattle.e57_sections.specs.Laws.Indexes.{Rises, rises-to}
@@ -21,9 +21,9 @@ use Rattle.e57_sections.specs.Laws.Descents.{HasEntry, entry-within}
 use Rattle.e57_index.specs.declared.cursor.Found.{Found}
 use Rattle.e57_index.specs.Asking.{AsksMet}
 use Rattle.e57_index.specs.Picking.{IsPicked}
-use Rattle.e57_index.specs.OnePacket.{level_fits, level_of, wanted_fault, OnPacket, IsPacketAt}
+use Rattle.e57_index.specs.OnePacket.{level_of, wanted_fault, OnPacket, IsPacketAt}
 use Rattle.e57_index.specs.Reading.{AsksTarget, ReadsTarget, LosesTarget}
-use Rattle.e57_index.specs.Standing.{HeldPacket, Cursor, IsLed, AreLed, entry_of, IsOfFile, StandsIn}
+use Rattle.e57_index.specs.Standing.{HeldPacket, Cursor, AreLed, entry_of, IsOfFile, StandsIn}
 use Rattle.e57_index.specs.Holding.{LoadsIndex, LosesLoad}
 use Rattle.e57_index.specs.Finding.{OnWay, AsksWay, KeepsStanding, FindsChunk, IsWayCause, LosesChunk, StepsDown, HoldsRecord, held_level, chunk_of}
 use Rattle.e57_index.proofs.Asked.{told_each, asks_met-on, asks_met-by}

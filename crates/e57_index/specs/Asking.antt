@@ -1,5 +1,5 @@
 -- The pages that a search in an index asks for.
-use Rattle.std.specs.Prelude.{◌≡◌, ℕ, ◌-◌, List, IfSome}
+use Rattle.std.specs.Prelude.{ℕ, ◌-◌, List, IfSome}
 use Rattle.std.specs.List.{AllByRecursion}
 use Rattle.e57_base.specs.Source.{SourceView}
 use Rattle.e57_page.specs.Pages.{AsksFor}

@@ -4,7 +4,6 @@ use Rattle.e57_base.specs.Count.{Rose}
 use Rattle.e57_base.specs.Source.{SourceView}
 use Rattle.e57_base.specs.declared.fault.ReadFault.{ReadFault}
 use Rattle.e57_base.specs.declared.fault.ReadFault.TheVariants.{Refused, Source}
-use Rattle.e57_layout.specs.declared.section.Section.{Section}
 use Rattle.e57_sections.specs.PathItem.{ChunkAt, path}
 use Rattle.e57_sections.specs.Met.{OnPath}
 use Rattle.e57_index.specs.declared.cursor.Found.{Found}

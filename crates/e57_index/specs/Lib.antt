@@ -5,3 +5,4 @@ pub mod Reading
 pub mod Standing
 pub mod Holding
 pub mod Finding
+pub mod Laws

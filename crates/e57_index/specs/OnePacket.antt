@@ -2,7 +2,6 @@
 use Rattle.std.specs.Prelude.{◌≡◌, ℕ, ◌+◌, ◌*◌, ◌==◌, ◌⊎◌, not, nat_lt, Bool, List, Option, Some, None}
 use Rattle.std.specs.Option.{option_or}
 use Rattle.e57_base.specs.declared.fault.Fault.{Fault}
-use Rattle.e57_base.specs.declared.kind.Kind.{Kind}
 use Rattle.e57_base.specs.declared.kind.Kind.TheVariants.{IndexShape}
 use Rattle.e57_base.specs.Fault.{fault}
 use Rattle.e57_page.specs.Place.{place}

@@ -1,5 +1,5 @@
 -- What an index cursor keeps, and that it is of a file.
-use Rattle.std.specs.Prelude.{◌≡◌, ℕ, suc, ◌*◌, ◌<◌, ◌≤◌, List, Option, IfSome}
+use Rattle.std.specs.Prelude.{◌≡◌, ℕ, suc, ◌<◌, ◌≤◌, List, Option, IfSome}
 use Rattle.e57_layout.specs.declared.packet.Entry.{Entry}
 use Rattle.e57_layout.specs.declared.section.Section.{Section}
 use Rattle.e57_sections.specs.PathItem.{descend, path}

@@ -4,8 +4,13 @@
 mod cursor;
 mod entries;
 mod held;
+mod onward;
 mod read;
 mod start;
 mod target;
 
 pub use cursor::{Found, IndexCursor};
+pub use onward::next_chunk_begins;
+
+#[cfg(test)]
+mod tests;

@@ -1,5 +1,4 @@
-use Rattle.std.proofs.Common.{◌≡◌, ◌+◌, ◌-◌, ◌*◌, ◌<◌, ◌≤◌, ◌∙◌, sym, ap, arith}
-use Rattle.e57_layout.specs.IndexPackets.{entry_at}
+use Rattle.std.proofs.Common.{◌≡◌, ◌-◌, ◌*◌, ◌∙◌, sym, ap, arith}
 use Rattle.e57_layout.specs.declared.packet.Entry.{Entry}
 use Rattle.e57_index.proofs.Listed.{rises-step, rises-low, rises-high, rises-none, begins-same, begins-other}
 use Rattle.e57_index.proofs.entries.is_ordered.Goals as goal

@@ -1,4 +1,4 @@
-use Rattle.std.proofs.Common.{◌≡◌, ◌+◌, ◌-◌, ◌*◌, ◌<◌, ◌≤◌}
+use Rattle.std.proofs.Common.{◌-◌, ◌*◌, ◌<◌, ◌≤◌}
 use Rattle.e57_layout.specs.IndexPackets.{entry_at}
 use Rattle.e57_index.proofs.entries.last_at_most.Given as goal
 

@@ -1,7 +1,4 @@
-use Rattle.std.proofs.Common.{◌≡◌, ◌+◌, ◌-◌, ◌*◌, ◌<◌, ◌≤◌, ◌∙◌, ℕ, suc, sym, ap, subst, arith}
-use Rattle.e57_layout.specs.IndexPackets.{entry_at, entries_at}
-use Rattle.e57_layout.specs.declared.packet.Entry.{Entry}
-use Rattle.e57_sections.specs.Laws.Descents.{HasEntry}
+use Rattle.std.proofs.Common.{◌≡◌, ◌+◌, ◌*◌, suc, arith}
 use Rattle.e57_index.proofs.Listed.{has-inner, has-last}
 use Rattle.e57_index.proofs.entries.pick.Goals as goal
 

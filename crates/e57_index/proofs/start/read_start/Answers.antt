@@ -1,6 +1,5 @@
-use Rattle.std.proofs.Common.{◌≡◌, ◌∙◌, ◌+◌, ◌-◌, ◌*◌, ◌/◌, ◌<◌, ◌≤◌, ℕ, List, refl, sym, ap, subst, arith}
+use Rattle.std.proofs.Common.{◌≡◌, ◌+◌, ◌/◌, ◌≤◌, ℕ, List, refl, sym, ap, arith}
 use Rattle.std.specs.Prelude.{Some}
-use Rattle.e57_base.specs.declared.fault.ReadFault.{ReadFault}
 use Rattle.e57_base.specs.Source.{SourceView}
 use Rattle.e57_page.specs.Place.{place, span_end}
 use Rattle.e57_page.specs.Pages.{AsksUnkept}
@@ -9,7 +8,7 @@ use Rattle.e57_layout.specs.IndexPackets.{entry_count_at, level_at}
 use Rattle.e57_layout.specs.declared.packet.IndexHead.{IndexHead}
 use Rattle.e57_layout.specs.declared.section.Section.{Section}
 use Rattle.e57_sections.specs.Met.{InIndexStart, InSpan}
-use Rattle.e57_index.specs.Reading.{AsksStart, IsStartCause}
+use Rattle.e57_index.specs.Reading.{AsksStart}
 use Rattle.e57_index.proofs.Asked.{told_each, asks_met-none, asks_met-span, cut_cause}
 use Rattle.e57_index.proofs.Starts.{no_place, before_data, past_end, wrong_start, misshapen, sound_start, start_is}
 use Rattle.e57_index.proofs.start.read_start.Goals as goal

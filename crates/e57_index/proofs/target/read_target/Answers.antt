@@ -1,4 +1,4 @@
-use Rattle.std.proofs.Common.{◌≡◌, ◌∙◌, ◌+◌, ◌-◌, ◌≤◌, refl, sym, arith}
+use Rattle.std.proofs.Common.{◌∙◌, ◌+◌, ◌≤◌, refl, sym, arith}
 use Rattle.e57_page.specs.PagesLaws.{cut_asks}
 use Rattle.e57_sections.specs.Met.{InTarget}
 use Rattle.e57_index.proofs.Asked.{asks_met-none, cut_cause}

@@ -1,4 +1,3 @@
-use Rattle.std.proofs.Common.{◌≡◌}
 use Rattle.e57_index.proofs.Ways.{after_leaf}
 use Rattle.e57_index.proofs.cursor.IndexCursor.find.Goals as goal
 

@@ -1,4 +1,4 @@
-use Rattle.std.proofs.Common.{◌≡◌, ◌≤◌, subst}
+use Rattle.std.proofs.Common.{subst}
 use Rattle.e57_layout.specs.declared.section.Section.{Section}
 use Rattle.e57_index.specs.Reading.{ReadsTarget, LosesTarget}
 use Rattle.e57_index.proofs.Ways.{leaf_found, leaf_lost}

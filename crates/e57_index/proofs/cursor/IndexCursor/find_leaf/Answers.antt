@@ -1,4 +1,4 @@
-use Rattle.std.proofs.Common.{◌≡◌, ◌∙◌}
+use Rattle.std.proofs.Common.{◌∙◌}
 use Rattle.e57_index.proofs.Ways.{steps_later, lost_later}
 use Rattle.e57_index.proofs.cursor.IndexCursor.find_leaf.Goals as goal
 

@@ -1,4 +1,4 @@
-use Rattle.std.proofs.Common.{◌≡◌, ◌+◌, ◌-◌, ◌<◌, suc, Some, arith}
+use Rattle.std.proofs.Common.{◌≡◌, ◌-◌, suc, Some, arith}
 use Rattle.e57_index.specs.Finding.{held_level}
 use Rattle.e57_index.proofs.Ways.{down_way, taken}
 use Rattle.e57_index.proofs.cursor.IndexCursor.go_down.Goals as goal

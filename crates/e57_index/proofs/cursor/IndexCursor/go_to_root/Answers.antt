@@ -1,4 +1,3 @@
-use Rattle.std.proofs.Common.{◌≡◌}
 use Rattle.e57_index.proofs.Ways.{rooted}
 use Rattle.e57_index.proofs.cursor.IndexCursor.go_to_root.Goals as goal
 

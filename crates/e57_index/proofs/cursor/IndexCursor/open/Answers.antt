@@ -1,4 +1,4 @@
-use Rattle.std.proofs.Common.{rules, ◌≡◌, length}
+use Rattle.std.proofs.Common.{rules}
 use Rattle.std.proofs.lemmas.Bool.{ne_eqb}
 use Rattle.e57_index.proofs.cursor.IndexCursor.open.Goals as goal
 

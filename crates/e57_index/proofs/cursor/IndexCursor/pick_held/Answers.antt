@@ -1,9 +1,8 @@
-use Rattle.std.proofs.Common.{◌≡◌, ◌∙◌, ◌+◌, ◌*◌, ◌<◌, ◌≤◌, List, ℕ, refl, sym, ap, subst, take, arith}
+use Rattle.std.proofs.Common.{◌≡◌, ◌∙◌, ◌*◌, ◌<◌, ◌≤◌, List, ℕ, refl, sym, ap, subst, take, arith}
 use Rattle.std.specs.Prelude.{Option, Some, IfSome}
-use Rattle.e57_layout.specs.IndexPackets.{entries_at}
 use Rattle.e57_layout.specs.declared.section.Section.{Section}
 use Rattle.e57_index.specs.Picking.{IsPicked}
-use Rattle.e57_index.specs.Standing.{HeldPacket, Cursor}
+use Rattle.e57_index.specs.Standing.{Cursor}
 use Rattle.e57_index.specs.Holding.{front_entries, held_packet, held_packets, IsHeld}
 use Rattle.e57_index.specs.Finding.{HoldsRecord}
 use Rattle.e57_index.specs.declared.held.Held.{Held}

@@ -1,0 +1,2 @@
+-- Laws of the search in an index.
+pub mod Onward
