@@ -22,7 +22,7 @@ pub told_each : (P : List ℕ → Type 0) (held : Option (List ℕ)) → ((file 
 told_each P None each = tt
 told_each P (Some file) each = each file
 
-each-append : (P : ℕ → Type 0) (xs ys : List ℕ) → AllByRecursion P xs → AllByRecursion P ys → AllByRecursion P (xs ++ ys)
+pub each-append : (P : ℕ → Type 0) (xs ys : List ℕ) → AllByRecursion P xs → AllByRecursion P ys → AllByRecursion P (xs ++ ys)
 each-append P [] ys first next = next
 each-append P (x ∷ xs) ys first next = (first.0, each-append P xs ys first.1 next)
 

@@ -18,7 +18,7 @@ use Rattle.e57_sections.specs.Index.{highest_level, known_place, begins_and_rise
 use Rattle.e57_sections.specs.Laws.Spans.{or-none}
 use Rattle.e57_index.specs.OnePacket.{level_fits, level_of, start_fault, wanted_fault, IsPacketAt}
 
-not_is : (t : Bool) → not t ≡ true → t ≡ false
+pub not_is : (t : Bool) → not t ≡ true → t ≡ false
 not_is true e = sym e
 not_is false e = refl
 

@@ -26,7 +26,7 @@ use Rattle.e57_index.proofs.Moved.{entries-piece}
 use Rattle.e57_index.proofs.Asked.{told_each, asks_met-on, asks_met-by, asks_met-span}
 use Rattle.e57_index.proofs.Judged.{level_is, start_none, level_fault, early_fault, late_fault, order_fault}
 
-known_is : (offset q : ℕ) → place offset ≡ Some q → known_place offset ≡ q
+pub known_is : (offset q : ℕ) → place offset ≡ Some q → known_place offset ≡ q
 known_is offset q is = ap (λ (at : Option ℕ). or_zero at) is
 
 -- the pages of the start are pages of the packet

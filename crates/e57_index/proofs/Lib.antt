@@ -8,3 +8,7 @@ pub mod Targets
 pub mod Led
 pub mod Loads
 pub mod Ways
+pub mod Gathered
+pub mod Spanned
+pub mod PacketSpans
+pub mod WaySpans

@@ -2,7 +2,7 @@
 use Rattle.std.proofs.Common.{◌≡◌, ℕ, zero, suc, ◌+◌, ◌-◌, ◌*◌, ◌<◌, ◌≤◌, true, false, List, [], ◌∷◌, refl, arith, inl, inr}
 use Rattle.std.proofs.lemmas.Bool.{lt-ltb, le-ltb, lt-leb, le-leb, eq-eqb, ne_eqb}
 use Rattle.e57_layout.specs.IndexPackets.{entry_at, entries_at}
-use Rattle.e57_sections.specs.Index.{rises, begins_and_rises}
+use Rattle.e57_sections.specs.Index.{rises, begins_and_rises, next_first}
 use Rattle.e57_sections.specs.Laws.Descents.{HasEntry}
 
 pub entries-zero : (b : List ℕ) (q : ℕ) → entries_at b q 0 ≡ []
@@ -70,3 +70,24 @@ has-last b bound q zero =
 has-last b bound q (suc n) =
     let here : q + 16 * suc n ≡ q + 16 + 16 * n = omega arith in
     rw here (inr (has-last b bound (q + 16) n))
+
+-- entry k ends where the next one begins
+pub next-inner : (b : List ℕ) (bound n k : ℕ) → k + 1 < n → next_first bound (entries_at b (16 * (k + 1)) (n - (k + 1))) ≡ (entry_at b (16 * (k + 1))).first
+unfolding entries_at
+next-inner b bound n k below = rw (left n (k + 1) below) refl
+
+-- the last one at the bound
+pub next-last : (b : List ℕ) (bound n k : ℕ) → n ≤ k + 1 → next_first bound (entries_at b (16 * (k + 1)) (n - (k + 1))) ≡ bound
+unfolding entries_at
+next-last b bound n k past = let none : n - (k + 1) ≡ 0 = omega arith in rw none refl
+
+-- from entry k on: entry k, and those from the next one on
+pub from-entry : (b : List ℕ) (n k : ℕ) → k < n → entries_at b (16 * k) (n - k) ≡ entry_at b (16 * k) ∷ entries_at b (16 * (k + 1)) (n - (k + 1))
+unfolding entries_at
+from-entry b n k below =
+    let next : 16 * (k + 1) ≡ 16 * k + 16 = omega arith in
+    rw (left n k below, next) refl
+
+pub none-from : (b : List ℕ) (q n k : ℕ) → n ≤ k → entries_at b q (n - k) ≡ []
+unfolding entries_at
+none-from b q n k past = let none : n - k ≡ 0 = omega arith in rw none refl

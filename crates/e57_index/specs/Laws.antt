@@ -1,2 +1,3 @@
 -- Laws of the search in an index.
 pub mod Onward
+pub mod Once

@@ -5,4 +5,6 @@ pub mod Reading
 pub mod Standing
 pub mod Holding
 pub mod Finding
+pub mod Gathering
+pub mod Spans
 pub mod Laws

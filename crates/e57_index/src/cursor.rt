@@ -8,6 +8,7 @@ ghost use Rattle.e57_section.specs.Opening.{LiesIn};
 ghost use Rattle.e57_index.specs.Picking.{IsPicked};
 ghost use Rattle.e57_index.specs.Holding.{holds_place, LoadsIndex, LosesLoad};
 ghost use Rattle.e57_index.specs.Finding.{FindsChunk, LosesChunk, StepsDown, HoldsRecord, held_level};
+ghost use Rattle.e57_index.specs.Spans.{AsksPacketSpans, holds_leaf, AsksPath, AsksLoad, DescendsSpans, StopsSpans, StepsSpans, AsksBelow};
 
 use crate::entries::{is_ordered, pick};
 use crate::held::Held;
@@ -86,6 +87,7 @@ impl IndexCursor {
         ensures length { pages.new.length ≡ pages.old.length }
         ensures header { pages.new.header ≡ pages.old.header }
         ensures section { self.new.section ≡ self.old.section }
+        ensures spans { AsksLoad self.old wanted entry.now (S.view pages.old.source) (S.view pages.new.source) }
         ensures load { MatchResult result
             (λ _. LoadsIndex (S.view pages.old.source) self.old wanted entry.now bound (S.view pages.new.source) self.new)
             (λ found. LosesLoad (S.view pages.old.source) self.old wanted entry.now bound found (S.view pages.new.source) self.new) }
@@ -151,6 +153,7 @@ impl IndexCursor {
         ensures length { pages.new.length ≡ pages.old.length }
         ensures header { pages.new.header ≡ pages.old.header }
         ensures section { self.new.section ≡ self.old.section }
+        ensures spans { AsksPacketSpans self.old.section wanted entry.now (S.view pages.old.source) (S.view pages.new.source) }
         ensures load { MatchResult result
             (λ _. LoadsIndex (S.view pages.old.source) self.old wanted entry.now bound (S.view pages.new.source) self.new)
             (λ found. LosesLoad (S.view pages.old.source) self.old wanted entry.now bound found (S.view pages.new.source) self.new) }
@@ -174,8 +177,12 @@ impl IndexCursor {
 
     /// The chunk of record `i`: its first record, the first record past it, and the place of its first packet.
     ///
-    /// Where the packet of the lowest level that is held has the record, the search begins there, else at the root. A packet
-    /// that is held isn't asked for again. It reads one index packet a level, and takes no memory.
+    /// Where the packet of level 0 that is held has the record, the search begins there, else at the root. It reads one index
+    /// packet a level, and takes no memory. After it the packet of level 0 that has the record is held, unless it was refused.
+    ///
+    /// Asks for pages of what it judges alone: of each index packet its first 16 bytes and then its entries, and the four bytes
+    /// that the entry names; one after another, each of them at most once. A packet that is held isn't asked for again, so
+    /// where that of level 0 is held, the four bytes alone are.
     ///
     /// Refuses the first fault on the way: of each index packet `IndexShape`, `Page`, `IndexShape`, `Page`, `IndexOrder`, and
     /// of the entry that has the record `IndexTarget`, `Page`, `IndexTarget`.
@@ -185,6 +192,8 @@ impl IndexCursor {
         ensures length { pages.new.length ≡ pages.old.length }
         ensures header { pages.new.header ≡ pages.old.header }
         ensures section { self.new.section ≡ self.old.section }
+        ensures leaf { MatchResult result (λ _. holds_leaf self.new.held i ≡ true) (λ _. Unit {0}) }
+        ensures spans { AsksPath self.old i (S.view pages.old.source) (S.view pages.new.source) }
         ensures chunk { MatchResult result
             (λ found. FindsChunk (S.view pages.old.source) self.old i found (S.view pages.new.source) self.new)
             (λ fault. LosesChunk (S.view pages.old.source) self.old i fault (S.view pages.new.source) self.new) }
@@ -203,6 +212,9 @@ impl IndexCursor {
         ensures header { pages.new.header ≡ pages.old.header }
         ensures section { self.new.section ≡ self.old.section }
         ensures leaf { MatchResult result (λ _. held_level self.new.held ≡ 0) (λ _. Unit {0}) }
+        ensures spans { MatchResult result
+            (λ _. DescendsSpans self.old i (S.view pages.old.source) (S.view pages.new.source) self.new)
+            (λ _. StopsSpans self.old i (S.view pages.old.source) (S.view pages.new.source)) }
         ensures chunk { MatchResult result
             (λ _. StepsDown (S.view pages.old.source) self.old i (S.view pages.new.source) self.new)
             (λ fault. LosesChunk (S.view pages.old.source) self.old i fault (S.view pages.new.source) self.new) }
@@ -225,9 +237,13 @@ impl IndexCursor {
     fn go_to_root<S: Source>(&mut self, pages: &mut Pages<S>, i: u64) -> Result<(), ReadFault>
         requires lies { LiesIn self.old.section (pages.old.length / page_length * payload_length) }
         requires below { i < self.old.section.count }
+        requires away { holds_leaf self.old.held i ≡ false }
         ensures length { pages.new.length ≡ pages.old.length }
         ensures header { pages.new.header ≡ pages.old.header }
         ensures section { self.new.section ≡ self.old.section }
+        ensures spans { MatchResult result
+            (λ _. DescendsSpans self.old i (S.view pages.old.source) (S.view pages.new.source) self.new)
+            (λ _. StopsSpans self.old i (S.view pages.old.source) (S.view pages.new.source)) }
         ensures chunk { MatchResult result
             (λ _. StepsDown (S.view pages.old.source) self.old i (S.view pages.new.source) self.new)
             (λ fault. LosesChunk (S.view pages.old.source) self.old i fault (S.view pages.new.source) self.new) }
@@ -249,6 +265,9 @@ impl IndexCursor {
         ensures header { pages.new.header ≡ pages.old.header }
         ensures section { self.new.section ≡ self.old.section }
         ensures lower { MatchResult result (λ _. held_level self.new.held < held_level self.old.held) (λ _. Unit {0}) }
+        ensures spans { MatchResult result
+            (λ _. StepsSpans self.old i (S.view pages.old.source) (S.view pages.new.source) self.new)
+            (λ _. AsksBelow 2 self.old i (S.view pages.old.source) (S.view pages.new.source)) }
         ensures chunk { MatchResult result
             (λ _. StepsDown (S.view pages.old.source) self.old i (S.view pages.new.source) self.new)
             (λ fault. LosesChunk (S.view pages.old.source) self.old i fault (S.view pages.new.source) self.new) }
@@ -266,6 +285,7 @@ impl IndexCursor {
         ensures length { pages.new.length ≡ pages.old.length }
         ensures header { pages.new.header ≡ pages.old.header }
         ensures same { self.new ≡ self.old }
+        ensures spans { AsksBelow 1 self.old i (S.view pages.old.source) (S.view pages.new.source) }
         ensures chunk { MatchResult result
             (λ found. FindsChunk (S.view pages.old.source) self.old i found (S.view pages.new.source) self.old)
             (λ fault. LosesChunk (S.view pages.old.source) self.old i fault (S.view pages.new.source) self.old) }
@@ -302,7 +322,8 @@ impl IndexCursor {
 
     /// Whether a packet of level 0 that has record `i` is held.
     fn has_leaf(&self, i: u64) -> bool
-        ensures { IsTrue result → (held_level self.now.held ≡ 0) × HoldsRecord self.now.held i }
+        ensures is { result ≡ holds_leaf self.now.held i }
+        ensures has { IsTrue result → (held_level self.now.held ≡ 0) × HoldsRecord self.now.held i }
     {
         match self.held {
             None => false,

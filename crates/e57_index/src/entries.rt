@@ -1,8 +1,8 @@
 //! The entries of an index packet, from their bytes.
 
-ghost use Rattle.std.specs.Prelude.{◌≡◌, ◌+◌, ◌*◌, ◌<◌, ◌≤◌, length};
+ghost use Rattle.std.specs.Prelude.{◌≡◌, ◌+◌, ◌-◌, ◌*◌, ◌<◌, ◌≤◌, length};
 ghost use Rattle.e57_layout.specs.IndexPackets.{entry_at, entries_at};
-ghost use Rattle.e57_sections.specs.Index.{begins_and_rises};
+ghost use Rattle.e57_sections.specs.Index.{begins_and_rises, next_first};
 ghost use Rattle.e57_index.specs.Picking.{IsPicked, IsLastAtMost};
 
 use e57_bits::u64_at;
@@ -13,7 +13,7 @@ const ENTRY: usize = 16;
 
 /// Entry `k` of these entries' bytes.
 #[tactic(auto, unfolding(e57_layout::specs::IndexPackets::entry_at))]
-fn entry(entries: &[u8], k: usize) -> Entry
+pub fn entry(entries: &[u8], k: usize) -> Entry
     requires { 16 * k + 16 ≤ length entries.now }
     ensures { result ≡ entry_at entries.now (16 * k) }
 {
@@ -22,6 +22,18 @@ fn entry(entries: &[u8], k: usize) -> Entry
         first: u64_at(entries, at),
         place: u64_at(entries, at + 8),
     }
+}
+
+/// The record at which entry `k` of these entries ends: that of the next entry, or the bound.
+pub fn end_of(entries: &[u8], count: usize, k: usize, bound: u64) -> u64
+    requires all { length entries.now ≡ 16 * count }
+    requires below { k < count }
+    ensures { result ≡ next_first bound (entries_at entries.now (16 * (k + 1)) (count - (k + 1))) }
+{
+    if k + 1 < count {
+        return entry(entries, k + 1).first;
+    }
+    bound
 }
 
 /// Whether these entries begin with just the record `first`, and their records rise and are below the bound.

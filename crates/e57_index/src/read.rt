@@ -4,6 +4,7 @@ ghost use Rattle.std.specs.Prelude.{◌≡◌, ◌+◌, ◌*◌, ◌/◌, ◌≤
 ghost use Rattle.e57_base.specs.Source.{page_length};
 ghost use Rattle.e57_page.specs.Place.{payload_length};
 ghost use Rattle.e57_index.specs.Reading.{most_entry_bytes, ReadsIndex, LosesIndex};
+ghost use Rattle.e57_index.specs.Spans.{AsksPacketSpans};
 
 use crate::entries::is_ordered;
 use crate::start::{is_wanted, read_start, refused};
@@ -36,6 +37,7 @@ pub fn read_index<S: Source>(
     requires room { length bytes.old ≡ most_entry_bytes }
     ensures length { pages.new.length ≡ pages.old.length }
     ensures header { pages.new.header ≡ pages.old.header }
+    ensures spans { AsksPacketSpans section.now wanted entry.now (S.view pages.old.source) (S.view pages.new.source) }
     ensures index { MatchResult result
         (λ head. ReadsIndex (S.view pages.old.source) section.now wanted entry.now bound head (take (16 * head.entries) bytes.new) (S.view pages.new.source))
         (λ found. LosesIndex (S.view pages.old.source) section.now wanted entry.now bound found (S.view pages.new.source)) }

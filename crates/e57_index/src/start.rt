@@ -8,6 +8,7 @@ ghost use Rattle.e57_layout.specs.Packets.{length_at};
 ghost use Rattle.e57_packet.specs.Reading.{is_misshapen_index, index_head_at};
 ghost use Rattle.e57_index.specs.OnePacket.{level_fits};
 ghost use Rattle.e57_index.specs.Reading.{ReadsStart, LosesStart};
+ghost use Rattle.e57_index.specs.Spans.{AsksStartSpans};
 
 use e57_base::{Fault, Kind, ReadFault, Source};
 use e57_bits::u16_at;
@@ -46,6 +47,7 @@ pub fn read_start<S: Source>(
     requires within { section.now.end ≤ pages.old.length / page_length * payload_length }
     ensures length { pages.new.length ≡ pages.old.length }
     ensures header { pages.new.header ≡ pages.old.header }
+    ensures spans { AsksStartSpans section.now offset (S.view pages.old.source) (S.view pages.new.source) }
     ensures start { MatchResult result
         (λ start. ReadsStart (S.view pages.old.source) section.now offset start (S.view pages.new.source))
         (λ found. LosesStart (S.view pages.old.source) section.now offset found (S.view pages.new.source)) }

@@ -6,6 +6,7 @@ ghost use Rattle.e57_bits.specs.Bits.{number};
 ghost use Rattle.e57_page.specs.Place.{payload_length};
 ghost use Rattle.e57_sections.specs.Index.{is_target as the_is_target};
 ghost use Rattle.e57_index.specs.Reading.{ReadsTarget, LosesTarget};
+ghost use Rattle.e57_index.specs.Spans.{AsksTargetSpans};
 
 use crate::start::refused;
 use e57_base::{Kind, ReadFault, Source};
@@ -33,6 +34,7 @@ pub fn read_target<S: Source>(
     requires within { section.now.end ≤ pages.old.length / page_length * payload_length }
     ensures length { pages.new.length ≡ pages.old.length }
     ensures header { pages.new.header ≡ pages.old.header }
+    ensures spans { AsksTargetSpans section.now entry.now (S.view pages.old.source) (S.view pages.new.source) }
     ensures target { MatchResult result
         (λ place. ReadsTarget (S.view pages.old.source) section.now entry.now place (S.view pages.new.source))
         (λ found. LosesTarget (S.view pages.old.source) section.now entry.now found (S.view pages.new.source)) }

@@ -2,8 +2,8 @@
 
 ghost use Rattle.std.specs.Prelude.{◌<◌, ◌≤◌};
 
-use crate::{Found, IndexCursor};
-use e57_base::{Fault, Kind, MemSource, ReadFault};
+use crate::{Found, IndexCursor, all_entries};
+use e57_base::{Fault, Kind, MemSource, OpenFault, ReadFault};
 use e57_crc::crc32c;
 use e57_page::{Pages, open_file};
 use e57_section::open_section;
@@ -111,6 +111,60 @@ fn chunks_by_the_index(rt: HostRuntime) -> Result<(), Fail> {
             "record {i} with {} as byte {}",
             edit.1, edit.0
         );
+    }
+    Ok(())
+}
+
+// The number of all entries, and the last one's record and place.
+fn gathered(alloc: Global, pages: &mut Pages<MemSource>) -> Result<(usize, u64, u64), OpenFault> {
+    let section = open_section(pages, 1, 48, 13, 1)?;
+    if section.index == 0 {
+        return Err(OpenFault::Memory);
+    }
+    let entries = all_entries(alloc, pages, &section)?;
+    if entries.len() == 0 {
+        return Err(OpenFault::Memory);
+    }
+    let last = entries.get(entries.len() - 1);
+    Ok((entries.len(), last.first, last.place))
+}
+
+#[test]
+fn all_entries_of_the_index(rt: HostRuntime) -> Result<(), Fail> {
+    let refused = |kind, b| Err(OpenFault::Refused(Fault { kind, a: 1, b }));
+    for (section, edit, wanted) in [
+        (ONE, (1020, 0), Ok((2, 5, 92))),
+        (ONE, (104, 1), refused(Kind::IndexShape, 104)),
+        (ONE, (106, 46), refused(Kind::IndexShape, 104)),
+        (ONE, (106, 51), refused(Kind::IndexShape, 104)),
+        (ONE, (108, 0), refused(Kind::IndexShape, 104)),
+        (ONE, (108, 3), refused(Kind::IndexShape, 104)),
+        (ONE, (110, 6), refused(Kind::IndexShape, 104)),
+        (ONE, (110, 1), refused(Kind::IndexShape, 80)),
+        (ONE, (120, 1), refused(Kind::IndexOrder, 104)),
+        (ONE, (136, 0), refused(Kind::IndexOrder, 104)),
+        (ONE, (136, 13), refused(Kind::IndexOrder, 104)),
+        (ONE, (80, 3), refused(Kind::IndexTarget, 0)),
+        (ONE, (81, 0), Ok((2, 5, 92))),
+        (ONE, (93, 0), refused(Kind::IndexTarget, 5)),
+        (ONE, (144, 79), refused(Kind::IndexTarget, 5)),
+        (ONE, (144, 94), refused(Kind::IndexTarget, 5)),
+        (ONE, (144, 149), refused(Kind::IndexTarget, 5)),
+        (TWO, (1020, 0), Ok((3, 5, 104))),
+        (TWO, (81, 0), Ok((3, 5, 104))),
+        (TWO, (93, 0), refused(Kind::IndexTarget, 2)),
+        (TWO, (105, 0), refused(Kind::IndexTarget, 5)),
+        (TWO, (122, 1), refused(Kind::IndexShape, 116)),
+        (TWO, (148, 5), refused(Kind::IndexOrder, 116)),
+        (TWO, (180, 4), refused(Kind::IndexOrder, 164)),
+        (TWO, (202, 6), refused(Kind::IndexShape, 196)),
+        (TWO, (220, 116), Ok((3, 5, 104))),
+        (TWO, (236, 196), refused(Kind::IndexShape, 196)),
+        (TWO, (236, 116), refused(Kind::IndexOrder, 116)),
+    ] {
+        let mut pages = opened(rt.alloc(), section, edit)?;
+        let answer = gathered(rt.alloc(), &mut pages);
+        assert_eq!(rt; answer, wanted, "with {} as byte {}", edit.1, edit.0);
     }
     Ok(())
 }

@@ -11,6 +11,8 @@ use Rattle.e57_sections.specs.Met.{InIndexStart, InSpan}
 use Rattle.e57_index.specs.Reading.{AsksStart}
 use Rattle.e57_index.proofs.Asked.{told_each, asks_met-none, asks_met-span, cut_cause}
 use Rattle.e57_index.proofs.Starts.{no_place, before_data, past_end, wrong_start, misshapen, sound_start, start_is}
+use Rattle.e57_index.specs.Spans.{start_spans}
+use Rattle.e57_index.proofs.Spanned.{asks_there, asks_nothing}
 use Rattle.e57_index.proofs.start.read_start.Goals as goal
 
 asks_start : (s : Section) (kept : List ℕ) (offset q : ℕ) (a b : SourceView) → place offset ≡ Some q → s.start + 32 ≤ q → q + 16 ≤ s.end → AsksUnkept kept (q / 1020) (span_end q 16) a b → AsksStart s offset a b
@@ -96,3 +98,44 @@ returns-in-None-clause-start g c =
       source = asks_start s c.args.pages.now.kept c.args.offset q old new (sym c.in-Some.ensures) low high range.source;
       cause = rw c.refused-shape.ensures (misshapen old new s c.args.offset q bytes (sym c.in-Some.ensures) low high c.in-None.ensures range.right range.bytes);
     }
+
+pub returns-in_default-clause-spans : goal.returns-in_default-clause-spans
+returns-in_default-clause-spans g c = asks_nothing c.args.section.now 1 (λ file. start_spans c.args.section.now c.args.offset) (g.S.Source.view c.args.pages.now.source)
+
+pub returns-then-place-section-clause-spans : goal.returns-then-place-section-clause-spans
+returns-then-place-section-clause-spans g c = asks_nothing c.args.section.now 1 (λ file. start_spans c.args.section.now c.args.offset) (g.S.Source.view c.args.pages.now.source)
+
+pub returns-then-section-place-clause-spans : goal.returns-then-section-place-clause-spans
+returns-then-section-place-clause-spans g c = asks_nothing c.args.section.now 1 (λ file. start_spans c.args.section.now c.args.offset) (g.S.Source.view c.args.pages.now.source)
+
+pub returns-in-Err-clause-spans : goal.returns-in-Err-clause-spans
+returns-in-Err-clause-spans g c =
+    let old = g.S.Source.view c.args.pages.now.source in
+    let new = g.S.Source.view c.read.new.self.source in
+    let s = c.args.section.now in
+    let under = c.if-section-place.false in
+    let long = c.requires.header in
+    let high : c.in-Some.place + 16 ≤ s.end = omega (arith, under, long) in
+    let kept = c.args.pages.now.kept in
+    let stopped = c.in-Err.ensures.range in
+    asks_there s (s.start + 32) 16 (place c.args.offset) kept c.in-Some.place old new (omega arith) (sym c.in-Some.ensures) c.if-place-section.false high (cut_asks old new kept c.read.new.self.kept c.in-Some.place stopped.0 _ c.read.new.out c.in-Err.cut stopped.1)
+
+pub returns-in-Some-judge_head-clause-spans : goal.returns-in-Some-judge_head-clause-spans
+returns-in-Some-judge_head-clause-spans g c =
+    let old = g.S.Source.view c.args.pages.now.source in
+    let new = g.S.Source.view c.read.new.self.source in
+    let s = c.args.section.now in
+    let under = c.if-section-place.false in
+    let long = c.requires.header in
+    let high : c.in-Some.place + 16 ≤ s.end = omega (arith, under, long) in
+    asks_there s (s.start + 32) 16 (place c.args.offset) c.args.pages.now.kept c.in-Some.place old new (omega arith) (sym c.in-Some.ensures) c.if-place-section.false high c.in_default-read.ensures.range.source
+
+pub returns-in-None-clause-spans : goal.returns-in-None-clause-spans
+returns-in-None-clause-spans g c =
+    let old = g.S.Source.view c.args.pages.now.source in
+    let new = g.S.Source.view c.read.new.self.source in
+    let s = c.args.section.now in
+    let under = c.if-section-place.false in
+    let long = c.requires.header in
+    let high : c.in-Some.place + 16 ≤ s.end = omega (arith, under, long) in
+    asks_there s (s.start + 32) 16 (place c.args.offset) c.args.pages.now.kept c.in-Some.place old new (omega arith) (sym c.in-Some.ensures) c.if-place-section.false high c.in_default-read.ensures.range.source

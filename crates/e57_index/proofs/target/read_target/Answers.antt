@@ -3,6 +3,9 @@ use Rattle.e57_page.specs.PagesLaws.{cut_asks}
 use Rattle.e57_sections.specs.Met.{InTarget}
 use Rattle.e57_index.proofs.Asked.{asks_met-none, cut_cause}
 use Rattle.e57_index.proofs.Targets.{asks_target, no_target, before_data, past_end, wrong_page, no_target_there, target_there}
+use Rattle.e57_page.specs.Place.{place}
+use Rattle.e57_index.specs.Spans.{target_spans}
+use Rattle.e57_index.proofs.Spanned.{asks_there, asks_nothing}
 use Rattle.e57_index.proofs.target.read_target.Goals as goal
 
 pub returns-in_default-clause-target : goal.returns-in_default-clause-target
@@ -73,3 +76,44 @@ returns-clause-target g c =
       within = high;
       sound = target_there old s c.args.entry.now c.in-Some.place c.read.new.out (sym c.in-Some.ensures) c.if-place-section.false high right range.right range.bytes;
     }
+
+pub returns-in_default-clause-spans : goal.returns-in_default-clause-spans
+returns-in_default-clause-spans g c = asks_nothing c.args.section.now 1 (λ file. target_spans c.args.section.now c.args.entry.now) (g.S.Source.view c.args.pages.now.source)
+
+pub returns-then-place-section-clause-spans : goal.returns-then-place-section-clause-spans
+returns-then-place-section-clause-spans g c = asks_nothing c.args.section.now 1 (λ file. target_spans c.args.section.now c.args.entry.now) (g.S.Source.view c.args.pages.now.source)
+
+pub returns-then-section-place-clause-spans : goal.returns-then-section-place-clause-spans
+returns-then-section-place-clause-spans g c = asks_nothing c.args.section.now 1 (λ file. target_spans c.args.section.now c.args.entry.now) (g.S.Source.view c.args.pages.now.source)
+
+pub returns-in-Err-clause-spans : goal.returns-in-Err-clause-spans
+returns-in-Err-clause-spans g c =
+    let old = g.S.Source.view c.args.pages.now.source in
+    let new = g.S.Source.view c.read.new.self.source in
+    let s = c.args.section.now in
+    let under = c.if-section-place.false in
+    let long = c.requires.header in
+    let high : c.in-Some.place + 4 ≤ s.end = omega (arith, under, long) in
+    let kept = c.args.pages.now.kept in
+    let stopped = c.in-Err.ensures.range in
+    asks_there s s.data_place 4 (place c.args.entry.now.place) kept c.in-Some.place old new c.requires.start (sym c.in-Some.ensures) c.if-place-section.false high (cut_asks old new kept c.read.new.self.kept c.in-Some.place stopped.0 _ c.read.new.out c.in-Err.cut stopped.1)
+
+pub returns-then-not-is_target-clause-spans : goal.returns-then-not-is_target-clause-spans
+returns-then-not-is_target-clause-spans g c =
+    let old = g.S.Source.view c.args.pages.now.source in
+    let new = g.S.Source.view c.read.new.self.source in
+    let s = c.args.section.now in
+    let under = c.if-section-place.false in
+    let long = c.requires.header in
+    let high : c.in-Some.place + 4 ≤ s.end = omega (arith, under, long) in
+    asks_there s s.data_place 4 (place c.args.entry.now.place) c.args.pages.now.kept c.in-Some.place old new c.requires.start (sym c.in-Some.ensures) c.if-place-section.false high c.in_default-read.ensures.range.source
+
+pub returns-clause-spans : goal.returns-clause-spans
+returns-clause-spans g c =
+    let old = g.S.Source.view c.args.pages.now.source in
+    let new = g.S.Source.view c.read.new.self.source in
+    let s = c.args.section.now in
+    let under = c.if-section-place.false in
+    let long = c.requires.header in
+    let high : c.in-Some.place + 4 ≤ s.end = omega (arith, under, long) in
+    asks_there s s.data_place 4 (place c.args.entry.now.place) c.args.pages.now.kept c.in-Some.place old new c.requires.start (sym c.in-Some.ensures) c.if-place-section.false high c.in_default-read.ensures.range.source

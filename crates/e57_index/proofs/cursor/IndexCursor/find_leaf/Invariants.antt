@@ -1,5 +1,6 @@
 use Rattle.std.proofs.Common.{◌≡◌}
 use Rattle.e57_index.specs.Finding.{AsksWay, KeepsStanding, HoldsRecord, held_level}
+use Rattle.e57_index.specs.Spans.{DescendsSpans}
 use Rattle.e57_index.proofs.cursor.IndexCursor.find_leaf.Given as goal
 
 abbrev pub invariant-down : goal.invariant-down
@@ -10,6 +11,7 @@ invariant-down g l =
       section : l.self.section ≡ l.fn.self.section;
       source : AsksWay l.fn.self l.i (g.S.Source.view l.fn.pages.source) (g.S.Source.view l.pages.source);
       stands : KeepsStanding (g.S.Source.view l.fn.pages.source) l.fn.self l.self;
+      spans : DescendsSpans l.fn.self l.i (g.S.Source.view l.fn.pages.source) (g.S.Source.view l.pages.source) l.self;
       has : HoldsRecord l.self.held l.i;
     }
 
