@@ -1,65 +1,24 @@
 -- Integers that a window has.
-use Rattle.std.proofs.Common.{◌≡◌, ℕ, ◌+◌, ◌-◌, ◌*◌, ◌/◌, ◌%◌, ◌<◌, ◌≤◌, List, ◌++◌, length, get_or, take, drop, refl, sym, subst, ap, ◌∙◌, arith, inl, inr, ⊎_elim, length-append}
-use Rattle.std.specs.Prelude.{min, ℤ, pos, ◌+ℤ◌, ◌≤ℤ◌, Ok, Err}
+use Rattle.std.proofs.Common.{◌≡◌, ℕ, ◌+◌, ◌-◌, ◌*◌, ◌/◌, ◌%◌, ◌<◌, ◌≤◌, List, ◌++◌, length, drop, sym, subst, ap, ◌∙◌, arith, inr}
+use Rattle.std.specs.Prelude.{ℤ, pos, ◌+ℤ◌, Ok, Err}
 use Rattle.std.specs.Int.{int_gap}
-use Rattle.std.proofs.Math.Nat.{le_refl}
-use Rattle.std.proofs.lemmas.Nat.{mul-le}
-use Rattle.std.proofs.lemmas.List.{drop_at}
 use Rattle.e57_base.specs.Source.{SourceView}
 use Rattle.e57_base.specs.declared.fault.ReadFault.{ReadFault}
 use Rattle.e57_base.specs.declared.fault.ReadFault.TheVariants.{Refused}
 use Rattle.e57_bits.specs.Bits.{number}
-use Rattle.e57_bits.specs.BitLaws.{number-drop}
-use Rattle.e57_lanes.specs.Unpack.{Written}
-use Rattle.e57_layout.specs.Values.{integers, whole, here, out_of_range, Outcome, Value}
+use Rattle.e57_layout.specs.Values.{integers, whole, here, out_of_range}
 use Rattle.e57_layout.specs.Widths.{width}
 use Rattle.e57_layout.specs.Items.{above, item_at}
 use Rattle.e57_layout.specs.Laws.Items.{bits_at-found, item_at-integers, above-within, above-over}
-use Rattle.e57_layout.specs.Laws.Widths.{gap-above, bit_length-le}
+use Rattle.e57_layout.specs.Laws.Widths.{gap-above}
 use Rattle.e57_stream.specs.declared.bytestream.Bytestream.{Bytestream}
 use Rattle.e57_stream.specs.declared.bytestream.Integers.{Integers}
 use Rattle.e57_stream.specs.declared.chunk.Chunk.{Chunk}
-use Rattle.e57_stream.specs.Standing.{IsWithin, items_held, moved_on, let_gone, whole_bytes}
+use Rattle.e57_stream.specs.Standing.{IsWithin, items_held, moved_on}
 use Rattle.e57_stream.specs.Reading.{ReadsItems, StopsAt}
-use Rattle.e57_stream.specs.ReadingLaws.{AreHere, Lacks, reads_taken, stops_out}
+use Rattle.e57_stream.specs.ReadingLaws.{AreHere, reads_taken, stops_out}
+use Rattle.e57_stream.proofs.WindowItems.{number_behind, bits_behind}
 use Rattle.e57_stream.specs.Integers.{IsRange, kind_of, range_at, FillsIntegers, whole_at, ReadsIntegers, StopsIntegers, WindowWritten, window_number, TakesIntegers}
-
--- ---- bits
-
--- the number of an item behind a front is that of the window
-pub number_behind : (front window : List ℕ) (w bit k j : ℕ) → 8 * length front + bit ≡ w * k → number (front ++ window) (w * (k + j)) w ≡ number (drop (bit / 8) window) (bit % 8 + j * w) w
-number_behind front window w bit k j begins =
-    let parts : w * (k + j) ≡ w * k + j * w = grind arith in
-    let place : w * (k + j) ≡ 8 * length front + (bit + j * w) = omega (arith, parts, begins) in
-    let inner : bit + j * w ≡ 8 * (bit / 8) + (bit % 8 + j * w) = omega arith in
-    ap (λ (t : ℕ). number (front ++ window) t w) place
-    ∙ sym (number-drop (front ++ window) (length front) (bit + j * w) w)
-    ∙ ap (λ (xs : List ℕ). number xs (bit + j * w) w) (drop_at front window (length front) refl)
-    ∙ ap (λ (t : ℕ). number window t w) inner
-    ∙ sym (number-drop window (bit / 8) (bit % 8 + j * w) w)
-
--- so many whole items are no more than there are bits
-pub held_bits : (w bits j : ℕ) → 0 < w → j < bits / w → w * j + w ≤ bits
-held_bits w bits j some below =
-    let most : w * (j + 1) ≤ w * (bits / w) = mul-le w (j + 1) w (bits / w) (le_refl w) (omega (arith, below)) in
-    let part : w * (bits / w) ≤ bits = omega arith in
-    let next : w * (j + 1) ≡ w * j + w = grind arith in
-    omega (arith, most, part, next)
-
--- the bits of the item are there
-pub bits_behind : (front window : List ℕ) (w bit k j : ℕ) → 0 < w → 8 * length front + bit ≡ w * k → j < (8 * length window - bit) / w → w * (k + j) + w ≤ 8 * length (front ++ window)
-bits_behind front window w bit k j some begins below =
-    let held = held_bits w (8 * length window - bit) j some below in
-    let parts : w * (k + j) ≡ w * k + w * j = grind arith in
-    rw length-append (omega (arith, held, parts, begins, some))
-
--- a window that has no whole item
-pub none_held : (w size bit : ℕ) → 0 < w → (8 * size - bit) / w ≡ 0 → 8 * size < bit + w
-none_held w size bit some none =
-    let zero : w * ((8 * size - bit) / w) ≡ w * 0 = ap (λ (q : ℕ). w * q) none in
-    let rest : (8 * size - bit) % w < w = omega arith in
-    let all : w * ((8 * size - bit) / w) + (8 * size - bit) % w ≡ 8 * size - bit = omega arith in
-    omega (arith, zero, rest, all)
 
 -- ---- an integer
 
@@ -108,7 +67,7 @@ fills_integers range chunk n old new is written = record {
   same_length = written.same_length;
 }
 
-within_as : (b : Bytestream) (range : Integers) (chunk : Chunk) → range.width ≡ width range.low range.high → IsWithin b.section range.width chunk → IsWithin b.section (width range.low range.high) chunk
+pub within_as : (b : Bytestream) (range : Integers) (chunk : Chunk) → range.width ≡ width range.low range.high → IsWithin b.section range.width chunk → IsWithin b.section (width range.low range.high) chunk
 within_as b range chunk e within = subst (λ (w : ℕ). IsWithin b.section w chunk) e within
 
 -- items of the window were read

@@ -1,93 +1,51 @@
 -- Reading integers step by step.
-use Rattle.std.proofs.Common.{◌≡◌, ℕ, ◌+◌, ◌-◌, ◌*◌, ◌/◌, ◌%◌, ◌<◌, ◌≤◌, ◌⊎◌, List, ◌++◌, length, get_or, take, drop, refl, sym, subst, ap, ◌∙◌, arith, inl, inr, ⊎_elim, get_or-take, length-append}
-use Rattle.std.specs.Prelude.{min, ℤ, pos, ◌≤ℤ◌, Ok, Err}
+use Rattle.std.proofs.Common.{◌≡◌, ℕ, ◌+◌, ◌-◌, ◌<◌, ◌≤◌, List, ◌++◌, length, get_or, take, drop, refl, sym, subst, ap, ◌∙◌, arith, inl, ⊎_elim}
+use Rattle.std.specs.Prelude.{min, ℤ, pos, ◌≤ℤ◌, Ok}
 use Rattle.std.proofs.lemmas.Bool.{cases_lt}
-use Rattle.std.proofs.lemmas.List.{length-take, length-drop, get_or-drop, get_or_append_left, get_or-append-add}
+use Rattle.std.proofs.lemmas.List.{length-take, get_or_append_left}
 use Rattle.e57_base.specs.Source.{SourceView}
 use Rattle.e57_base.specs.declared.fault.ReadFault.{ReadFault}
 use Rattle.e57_lanes.specs.Unpack.{Written}
-use Rattle.e57_layout.specs.Values.{Value, whole}
+use Rattle.e57_layout.specs.Values.{whole}
 use Rattle.e57_layout.specs.Widths.{width}
 use Rattle.e57_layout.specs.Laws.Widths.{bit_length-le}
 use Rattle.std.specs.Int.{int_gap}
 use Rattle.e57_stream.specs.declared.bytestream.Bytestream.{Bytestream}
 use Rattle.e57_stream.specs.declared.bytestream.Integers.{Integers}
 use Rattle.e57_stream.specs.declared.chunk.Chunk.{Chunk}
-use Rattle.e57_stream.specs.Standing.{IsWithin, items_held, moved_on, let_gone, whole_bytes, wanted, IsOnward}
+use Rattle.e57_stream.specs.Standing.{IsWithin, items_held, moved_on, let_gone, wanted, IsOnward}
 use Rattle.e57_stream.specs.Taking.{TakesPacket, TakesNone}
 use Rattle.e57_stream.specs.Reading.{ReadsItems, StopsAt}
-use Rattle.e57_stream.specs.ReadingLaws.{Lacks, reads_none, stops_short, reads_on, stops_on, reads_nothing}
+use Rattle.e57_stream.specs.ReadingLaws.{reads_on, stops_on, reads_nothing}
 use Rattle.e57_stream.specs.Integers.{IsRange, kind_of, FillsIntegers, whole_at, ReadsIntegers, StopsIntegers, TakesIntegers}
-use Rattle.e57_stream.proofs.IntegerItems.{none_held, fills_integers}
+use Rattle.e57_stream.proofs.IntegerItems.{fills_integers, within_as}
+use Rattle.e57_stream.proofs.WindowItems.{HasNone, none_taken}
+use Rattle.e57_stream.proofs.NextPacket.{MayTake, may_take, packet_read, packet_stopped, MayStep, may_step_on, step_less}
+use Rattle.e57_stream.proofs.Parts.{part_before, part_in, length-part, length_of_part, rest_on, behind_front, length_front}
 use borrow.Rule.Slice.PartMut.{put_mid}
 
 -- ---- no item in the window
-
-with_place : Chunk → ℕ → ℕ → Chunk
-with_place chunk at bit = record chunk { at = at; bit = bit }
-
-pub moved_none : (w : ℕ) (chunk : Chunk) → moved_on w 0 chunk ≡ chunk
-unfolding moved_on with_place
-moved_none w chunk =
-    let e : chunk.at + 0 ≡ chunk.at = omega arith in
-    let f : chunk.bit + w * 0 ≡ chunk.bit = omega arith in
-    ap (λ (a : ℕ). with_place chunk a (chunk.bit + w * 0)) e ∙ ap (λ (t : ℕ). with_place chunk chunk.at t) f
 
 width_most : (low high : ℤ) → width low high ≤ 64
 unfolding width
 width_most low high = bit_length-le 64 (int_gap low high)
 
--- what is known where no item was read into one or more places
-pub record HasNone (range : Integers) (before after : Chunk) : Type 0 where
-  pub same : after ≡ before
-  pub lacks : Lacks (kind_of range) before
-  pub left : length (let_gone after).window ≤ 16
-
-left_over : (w : ℕ) (chunk : Chunk) → w ≤ 64 → 8 * length chunk.window < chunk.bit + w → length (let_gone chunk).window ≤ 16
-unfolding let_gone
-left_over w chunk few lacks = rw length-drop (omega (arith, few, lacks))
-
-pub has_none : (range : Integers) (before : Chunk) (old new : List ℤ) (after : Chunk) → IsRange range → 0 < length old → TakesIntegers range before old (Ok 0) after new → HasNone range before after
-has_none range before old new after is some takes =
-    let count = takes.0 in
-    let same : after ≡ before = takes.1 ∙ moved_none range.width before in
-    let none : (8 * length before.window - before.bit) / range.width ≡ 0 = omega (arith, count, some) in
-    let cut = none_held range.width (length before.window) before.bit is.some none in
-    let lacks : 8 * length before.window < before.bit + width range.low range.high = subst (λ (w : ℕ). 8 * length before.window < before.bit + w) is.width_is cut in
-    record {
-      same = same;
-      lacks = lacks;
-      left = subst (λ (chunk : Chunk). length (let_gone chunk).window ≤ 16) (sym same) (left_over (width range.low range.high) before (width_most range.low range.high) lacks);
-    }
-
-within_as : (b : Bytestream) (range : Integers) (chunk : Chunk) → range.width ≡ width range.low range.high → IsWithin b.section range.width chunk → IsWithin b.section (width range.low range.high) chunk
-within_as b range chunk e within = subst (λ (w : ℕ). IsWithin b.section w chunk) e within
-
 some_bits : (range : Integers) → IsRange range → 0 < width range.low range.high
 some_bits range is = subst (λ (w : ℕ). 0 < w) is.width_is is.some
 
-later : (source source' : SourceView) (b : Bytestream) (before after : Chunk) → TakesPacket source b (let_gone before) after source' → before.taken < after.taken
-unfolding let_gone
-later source source' b before after taken = let there = taken.there in omega (arith, there)
+-- where no item was read into one or more places
+has_none : (range : Integers) (before mid : Chunk) (old new : List ℤ) (n : ℕ) → IsRange range → 0 < length old → n ≤ 0 → TakesIntegers range before old (Ok n) mid new → HasNone (width range.low range.high) before mid
+has_none range before mid old new n is some zero takes =
+    none_taken (width range.low range.high) (length old) n before mid (some_bits range is) (width_most range.low range.high) some zero (takes.0 ∙ ap (λ (w : ℕ). min (length old) (items_held w before)) is.width_is) (takes.1 ∙ ap (λ (w : ℕ). moved_on w n before) is.width_is)
 
-gone_taken : (chunk : Chunk) → (let_gone chunk).taken ≡ chunk.taken
-unfolding let_gone
-gone_taken chunk = refl
+pub may_take_on : (b : Bytestream) (range : Integers) (before mid gone : Chunk) (old new : List ℤ) (n : ℕ) → IsRange range → before.taken ≤ b.section.end → 0 < length old → n ≤ 0 → TakesIntegers range before old (Ok n) mid new → gone ≡ let_gone mid → MayTake b.section.end gone
+may_take_on b range before mid gone old new n is within some zero takes gone_is = may_take b.section.end (width range.low range.high) before mid gone within (has_none range before mid old new n is some zero takes) gone_is
 
--- what taking a packet asks for
-pub record MayTake (end : ℕ) (gone : Chunk) : Type 0 where
-  pub within : gone.taken ≤ end
-  pub left : length gone.window ≤ 16
-
-pub may_take : (b : Bytestream) (range : Integers) (before mid gone : Chunk) (old new : List ℤ) → IsRange range → before.taken ≤ b.section.end → 0 < length old → TakesIntegers range before old (Ok 0) mid new → gone ≡ let_gone mid → MayTake b.section.end gone
-may_take b range before mid gone old new is within some takes gone_is =
-    let none = has_none range before old new mid is some takes in
-    let same : gone.taken ≡ before.taken = ap (λ (c : Chunk). c.taken) gone_is ∙ gone_taken mid ∙ ap (λ (c : Chunk). c.taken) none.same in
-    record { within = omega (arith, same, within); left = subst (λ (c : Chunk). length c.window ≤ 16) (sym gone_is) none.left }
-
--- none were taken
-pub takes_zero : (range : Integers) (before mid : Chunk) (old new : List ℤ) (n : ℕ) → n ≤ 0 → TakesIntegers range before old (Ok n) mid new → TakesIntegers range before old (Ok 0) mid new
-takes_zero range before mid old new n none takes = let e : n ≡ 0 = omega (arith, none) in subst (λ (k : ℕ). TakesIntegers range before old (Ok k) mid new) e takes
+-- where the window had none, nothing of the buffer was changed
+fills_none : (range : Integers) (before after : Chunk) (old new : List ℤ) (n : ℕ) → IsRange range → n ≤ 0 → TakesIntegers range before old (Ok n) after new → FillsIntegers range 0 old new
+fills_none range before after old new n is zero takes =
+    let e : n ≡ 0 = omega (arith, zero) in
+    subst (λ (k : ℕ). FillsIntegers range k old new) e (fills_integers range before n old new is takes.2)
 
 -- some were
 pub onward_items : (range : Integers) (before after : Chunk) (old new : List ℤ) (n : ℕ) → 0 < n → TakesIntegers range before old (Ok n) after new → IsOnward before after
@@ -97,60 +55,24 @@ onward_items range before after old new n some takes =
     inl (omega (arith, at, some))
 
 -- then a packet was taken
-pub reads_packet : (source source' : SourceView) (b : Bytestream) (range : Integers) (before mid gone after : Chunk) (old new : List ℤ) → IsRange range → IsWithin b.section range.width before → 0 < length old → TakesIntegers range before old (Ok 0) mid new → gone ≡ let_gone mid
+pub reads_packet : (source source' : SourceView) (b : Bytestream) (range : Integers) (before mid gone after : Chunk) (old new : List ℤ) (n : ℕ) → IsRange range → IsWithin b.section range.width before → 0 < length old → n ≤ 0 → TakesIntegers range before old (Ok n) mid new → gone ≡ let_gone mid
     → TakesPacket source b gone after source' → ReadsIntegers source b range before (length old) 0 old new after source' × (before.taken < after.taken)
-reads_packet source source' b range before mid gone after old new is within some takes gone_is packet =
-    let none = has_none range before old new mid is some takes in
-    let taken : TakesPacket source b (let_gone before) after source' = subst (λ (chunk : Chunk). TakesPacket source b chunk after source') (gone_is ∙ ap let_gone none.same) packet in (
-      record {
-        fills = fills_integers range before 0 old new is takes.2;
-        reads = reads_none source source' b (kind_of range) before after (length old) (whole_at new) (some_bits range is) some (within_as b range before is.width_is within) none.lacks taken;
-      },
-      later source source' b before after taken,
-    )
+reads_packet source source' b range before mid gone after old new n is within some zero takes gone_is packet =
+    let none = has_none range before mid old new n is some zero takes in
+    let read = packet_read source source' b (kind_of range) before mid gone after (length old) (whole_at new) (some_bits range is) (within_as b range before is.width_is within) some none gone_is packet in
+    (record { fills = fills_none range before mid old new n is zero takes; reads = read.0 }, read.1)
 
 -- or none was
-pub stops_packet : (source source' : SourceView) (b : Bytestream) (range : Integers) (before mid gone after : Chunk) (old new : List ℤ) (found : ReadFault) → IsRange range → IsWithin b.section range.width before → 0 < length old → TakesIntegers range before old (Ok 0) mid new → gone ≡ let_gone mid
+pub stops_packet : (source source' : SourceView) (b : Bytestream) (range : Integers) (before mid gone after : Chunk) (old new : List ℤ) (n : ℕ) (found : ReadFault) → IsRange range → IsWithin b.section range.width before → 0 < length old → n ≤ 0 → TakesIntegers range before old (Ok n) mid new → gone ≡ let_gone mid
     → TakesNone source b gone found after source' → StopsIntegers source b range before (length old) 0 found old new after source'
-stops_packet source source' b range before mid gone after old new found is within some takes gone_is packet =
-    let none = has_none range before old new mid is some takes in
-    let taken : TakesNone source b (let_gone before) found after source' = subst (λ (chunk : Chunk). TakesNone source b chunk found after source') (gone_is ∙ ap let_gone none.same) packet in
+stops_packet source source' b range before mid gone after old new n found is within some zero takes gone_is packet =
+    let none = has_none range before mid old new n is some zero takes in
     record {
-      fills = fills_integers range before 0 old new is takes.2;
-      stops = stops_short source source' b (kind_of range) before after (length old) found (whole_at new) (some_bits range is) some (within_as b range before is.width_is within) none.lacks taken;
+      fills = fills_none range before mid old new n is zero takes;
+      stops = packet_stopped source source' b (kind_of range) before mid gone after (length old) found (whole_at new) (some_bits range is) (within_as b range before is.width_is within) some none gone_is packet;
     }
 
--- ---- a part of a buffer
-
--- an element of a list whose part from n on was changed
-pub part_before : (xs ys : List ℤ) (n k j : ℕ) (d : ℤ) → n ≤ length xs → j < n → get_or (put_mid n k xs ys) j d ≡ get_or xs j d
-part_before xs ys n k j d room below =
-    let size : length (take n xs) ≡ n = length-take n xs ∙ omega (arith, room) in
-    get_or_append_left (take n xs) (ys ++ drop k (drop n xs)) d j (omega (arith, size, below)) ∙ rw get_or-take refl
-
-pub part_in : (xs ys : List ℤ) (n k j : ℕ) (d : ℤ) → n ≤ length xs → j < length ys → get_or (put_mid n k xs ys) (n + j) d ≡ get_or ys j d
-part_in xs ys n k j d room below =
-    let size : length (take n xs) ≡ n = length-take n xs ∙ omega (arith, room) in
-    let place : n + j ≡ length (take n xs) + j = omega (arith, size) in
-    ap (λ (i : ℕ). get_or (put_mid n k xs ys) i d) place ∙ get_or-append-add (take n xs) (ys ++ drop k (drop n xs)) j d ∙ get_or_append_left ys (drop k (drop n xs)) d j below
-
-pub part_behind : (xs ys : List ℤ) (n k j : ℕ) (d : ℤ) → n ≤ length xs → length ys ≡ k → get_or (put_mid n k xs ys) (n + (k + j)) d ≡ get_or xs (n + (k + j)) d
-part_behind xs ys n k j d room size_too =
-    let size : length (take n xs) ≡ n = length-take n xs ∙ omega (arith, room) in
-    let place : n + (k + j) ≡ length (take n xs) + (length ys + j) = omega (arith, size, size_too) in
-    ap (λ (i : ℕ). get_or (put_mid n k xs ys) i d) place ∙ get_or-append-add (take n xs) (ys ++ drop k (drop n xs)) (length ys + j) d ∙ get_or-append-add ys (drop k (drop n xs)) j d
-    ∙ get_or-drop k (drop n xs) j d ∙ get_or-drop n xs (k + j) d
-
-length-part : (xs ys : List ℤ) (n k : ℕ) → n + k ≤ length xs → length ys ≡ k → length (put_mid n k xs ys) ≡ length xs
-length-part xs ys n k room size =
-    let front : length (take n xs) ≡ n = length-take n xs ∙ omega (arith, room) in
-    let rest : length (drop k (drop n xs)) ≡ length xs - n - k = length-drop k (drop n xs) ∙ ap (λ (i : ℕ). i - k) (length-drop n xs) in
-    length-append (take n xs) (ys ++ drop k (drop n xs)) ∙ ap (λ (i : ℕ). length (take n xs) + i) (length-append ys (drop k (drop n xs))) ∙ omega (arith, front, rest, room, size)
-
-pub length_of_part : (xs part : List ℤ) (want n : ℕ) → n ≤ want → want ≤ length xs → part ≡ take (want - n) (drop n xs) → length part ≡ want - n
-length_of_part xs part want n few room is =
-    let size = length-drop n xs in
-    ap (λ (l : List ℤ). length l) is ∙ length-take (want - n) (drop n xs) ∙ omega (arith, size, few, room)
+-- ---- one step after another
 
 -- a buffer of which some places were filled, and then some of a part
 fills_on : (range : Integers) (want n m : ℕ) (out0 out1 part part' : List ℤ) → n ≤ want → want ≤ length out1 → part ≡ take (want - n) (drop n out1) → m ≤ want - n → FillsIntegers range n out0 out1 → FillsIntegers range m part part' → FillsIntegers range (n + m) out0 (put_mid n (want - n) out1 part')
@@ -172,25 +94,9 @@ fills_on range want n m out0 out1 part part' few room is fewer f g =
           let there : j - n < m = omega (arith, below, late) in
           subst (λ (i : ℕ). get_or (put_mid n (want - n) out1 part') i (pos 0) ≤ℤ range.high) e (rw (part_in out1 part' n (want - n) (j - n) (pos 0) begin (omega (arith, there, size, fewer))) (g.most (j - n) there)))
           (cases_lt j n);
-      rest = λ j past. rest_of j past begin size;
+      rest = λ j past. rest_on want n m j out0 out1 part part' (pos 0) few room is g.same_length f.rest g.rest past;
       same_length = length-part out1 part' n (want - n) (omega (arith, few, room)) size ∙ f.same_length;
     }
-  where
-    inside : (j : ℕ) → n + m ≤ j → j < want → n ≤ length out1 → length part' ≡ want - n → get_or (put_mid n (want - n) out1 part') (n + (j - n)) (pos 0) ≡ get_or out1 (n + (j - n)) (pos 0)
-    inside j past below begin size =
-        let there : j - n < want - n = omega (arith, past, below) in
-        part_in out1 part' n (want - n) (j - n) (pos 0) begin (omega (arith, there, size))
-        ∙ g.rest (j - n) (omega (arith, past)) ∙ ap (λ (l : List ℤ). get_or l (j - n) (pos 0)) is ∙ rw get_or-take (get_or-drop n out1 (j - n) (pos 0))
-
-    rest_of : (j : ℕ) → n + m ≤ j → n ≤ length out1 → length part' ≡ want - n → get_or (put_mid n (want - n) out1 part') j (pos 0) ≡ get_or out0 j (pos 0)
-    rest_of j past begin size = ⊎_elim
-        (λ (below : j < want).
-        let e : n + (j - n) ≡ j = omega (arith, past) in
-        subst (λ (i : ℕ). get_or (put_mid n (want - n) out1 part') i (pos 0) ≡ get_or out1 i (pos 0)) e (inside j past below begin size) ∙ f.rest j (omega (arith, past)))
-        (λ (behind : want ≤ j).
-        let e : n + (want - n + (j - want)) ≡ j = omega (arith, behind, few) in
-        subst (λ (i : ℕ). get_or (put_mid n (want - n) out1 part') i (pos 0) ≡ get_or out1 i (pos 0)) e (part_behind out1 part' n (want - n) (j - want) (pos 0) begin size) ∙ f.rest j (omega (arith, past)))
-        (cases_lt j want)
 
 -- some items, and then some more into a part of the buffer
 pub reads_integers_on : (s0 s1 s2 : SourceView) (b : Bytestream) (range : Integers) (first second third : Chunk) (want n m : ℕ) (out0 out1 part part' : List ℤ) → n ≤ want → want ≤ length out1 → part ≡ take (want - n) (drop n out1)
@@ -237,19 +143,12 @@ pub written_front : (bytes : List ℕ) (phase w : ℕ) (low : ℤ) (span n : ℕ
 written_front bytes phase w low span n out part room written =
     let front : length (take n out) ≡ n = length-take n out ∙ omega (arith, room) in
     let size : length part ≡ n = written.same_length ∙ front in
-    let rest : length (drop n out) ≡ length out - n = length-drop n out in
     record {
       within = written.within;
       items = λ k from until. get_or_append_left part (drop n out) (pos 0) k (omega (arith, size, until)) ∙ written.items k from until;
-      others = λ k not_those. ⊎_elim (λ (below : k < 0). absurd (omega (arith, below))) (λ (past : n ≤ k). behind k past size) not_those;
-      same_length = length-append part (drop n out) ∙ omega (arith, size, rest, room);
+      others = λ k not_those. ⊎_elim (λ (below : k < 0). absurd (omega (arith, below))) (λ (past : n ≤ k). behind_front out part n k (pos 0) size past) not_those;
+      same_length = length_front out part n size room;
     }
-  where
-    behind : (k : ℕ) → n ≤ k → length part ≡ n → get_or (part ++ drop n out) k (pos 0) ≡ get_or out k (pos 0)
-    behind k past size =
-        let e : length part + (k - n) ≡ k = omega (arith, size, past) in
-        let f : n + (k - n) ≡ k = omega (arith, past) in
-        ap (λ (i : ℕ). get_or (part ++ drop n out) i (pos 0)) (sym e) ∙ get_or-append-add part (drop n out) (k - n) (pos 0) ∙ get_or-drop n out (k - n) (pos 0) ∙ ap (λ (i : ℕ). get_or out i (pos 0)) f
 
 -- ---- a loop
 
@@ -261,27 +160,18 @@ reads_integers_none source b range chunk want out is within = record {
 }
 
 -- what a step asks for
-pub record MayStep (b : Bytestream) (range : Integers) (chunk : Chunk) (places : ℕ) : Type 0 where
-  pub within : IsWithin b.section range.width chunk
-  pub left : chunk.at + places ≤ chunk.until
-
-pub may_step : (s0 s1 : SourceView) (b : Bytestream) (range : Integers) (first second : Chunk) (want n : ℕ) (out0 out1 : List ℤ) → IsRange range → first.at ≤ first.until → n ≤ want → want ≡ wanted first (length out0) → ReadsIntegers s0 b range first want n out0 out1 second s1 → MayStep b range second (want - n)
+pub may_step : (s0 s1 : SourceView) (b : Bytestream) (range : Integers) (first second : Chunk) (want n : ℕ) (out0 out1 : List ℤ) → IsRange range → first.at ≤ first.until → n ≤ want → want ≡ wanted first (length out0) → ReadsIntegers s0 b range first want n out0 out1 second s1 → MayStep b range.width second (want - n)
 may_step s0 s1 b range first second want n out0 out1 is low few want_is f =
-    let at = f.reads.at in
-    let until = f.reads.stays.until in
-    record {
-      within = subst (λ (w : ℕ). IsWithin b.section w second) (sym is.width_is) f.reads.stays.within;
-      left = omega (arith, at, until, few, want_is, low);
-    }
+    subst (λ (w : ℕ). MayStep b w second (want - n)) (sym is.width_is) (may_step_on s0 s1 b (kind_of range) first second want n (length out0) (whole_at out1) low few want_is f.reads)
 
--- a step goes on: what is left of the section and of the records is less
+-- where the state is after a read
+pub within_read : (s0 s1 : SourceView) (b : Bytestream) (range : Integers) (first second : Chunk) (want n : ℕ) (out0 out1 : List ℤ) → IsRange range → ReadsIntegers s0 b range first want n out0 out1 second s1 → IsWithin b.section range.width second
+within_read s0 s1 b range first second want n out0 out1 is f = subst (λ (w : ℕ). IsWithin b.section w second) (sym is.width_is) f.reads.stays.within
+
+-- and after one that stopped
+pub within_stopped : (s0 s1 : SourceView) (b : Bytestream) (range : Integers) (first second : Chunk) (want n : ℕ) (found : ReadFault) (out0 out1 : List ℤ) → IsRange range → StopsIntegers s0 b range first want n found out0 out1 second s1 → IsWithin b.section range.width second
+within_stopped s0 s1 b range first second want n found out0 out1 is f = subst (λ (w : ℕ). IsWithin b.section w second) (sym is.width_is) f.stops.stays.within
+
+-- a step goes on
 pub step_smaller : (s0 s1 : SourceView) (b : Bytestream) (range : Integers) (before after : Chunk) (left n : ℕ) (out new : List ℤ) → ReadsIntegers s0 b range before left n out new after s1 → IsOnward before after → (want done : ℕ) → left ≡ want - done → done < want → (b.section.end - after.taken) + (want - (done + n)) < (b.section.end - before.taken) + (want - done)
-step_smaller s0 s1 b range before after left n out new f onward want done left_is below =
-    let at = f.reads.at in
-    let on = f.reads.stays.onward in
-    let count = f.reads.count in
-    let within = f.reads.stays.within.taken_within in
-    ⊎_elim
-    (λ (items : before.at < after.at). omega (arith, at, on, count, within, items, left_is, below))
-    (λ (packet : before.taken < after.taken). omega (arith, on, count, within, packet, left_is, below))
-    onward
+step_smaller s0 s1 b range before after left n out new f onward want done left_is below = step_less s0 s1 b (kind_of range) before after left n (whole_at new) f.reads onward want done left_is below

@@ -1,5 +1,11 @@
 pub mod Windows
 pub mod Takings
+pub mod Parts
+pub mod WindowItems
+pub mod NextPacket
 pub mod IntegerItems
 pub mod IntegerSteps
 pub mod Unpackings
+pub mod WordItems
+pub mod WordSteps
+pub mod Ranges

@@ -1,17 +1,16 @@
 -- What taking a packet does, by what loading it answered.
 use Rattle.std.specs.Prelude.{◌≡◌, ℕ, ◌+◌, ◌<◌, ◌≤◌, ◌==◌, ◌&&◌, ◌⊎◌, Bool, true, false, if◌then◌else◌, List, [], ◌++◌, get_or, Option, Some, None, is_none, IfSome}
-use Rattle.std.proofs.Common.{refl, sym, subst, ap, ◌∙◌, arith, inl, inr, append_assoc}
+use Rattle.std.proofs.Common.{refl, sym, ap, ◌∙◌, arith, inl, inr, append_assoc}
 use Rattle.e57_base.specs.Fault.{fault}
 use Rattle.e57_base.specs.Source.{SourceView}
 use Rattle.e57_base.specs.Told.{told_map, told_both}
-use Rattle.e57_base.specs.declared.fault.Fault.{Fault}
 use Rattle.e57_base.specs.declared.fault.ReadFault.{ReadFault}
 use Rattle.e57_base.specs.declared.fault.ReadFault.TheVariants.{Refused, Source}
 use Rattle.e57_base.specs.declared.kind.Kind.{Kind}
 use Rattle.e57_base.specs.declared.kind.Kind.TheVariants.{RestartUnindexed}
 use Rattle.e57_page.specs.File.{logical}
 use Rattle.e57_layout.specs.declared.section.Section.{Section}
-use Rattle.e57_layout.specs.Packets.{length_at, restart_at}
+use Rattle.e57_layout.specs.Packets.{length_at}
 use Rattle.e57_sections.specs.Walk.{Packet, packet_at, packet_fault}
 use Rattle.e57_sections.specs.Met.{InSpan, needed_at}
 use Rattle.e57_section.specs.declared.load.Loaded.{Loaded}
@@ -22,7 +21,7 @@ use Rattle.e57_section.specs.AskingLaws.{needed_loaded, loaded_packet}
 use Rattle.e57_stream.specs.declared.bytestream.Bytestream.{Bytestream}
 use Rattle.e57_stream.specs.declared.chunk.Chunk.{Chunk}
 use Rattle.e57_stream.specs.Asking.{AsksMet, AsksNear}
-use Rattle.e57_stream.specs.AskingLaws.{asks_met_none, asks_met_map, packet_near, packet_met}
+use Rattle.e57_stream.specs.AskingLaws.{asks_met_none, asks_met_map, asks_near_nothing, asks_near_wider, packet_near, packet_met}
 use Rattle.e57_stream.specs.Standing.{HasTaken, Reaches}
 use Rattle.e57_stream.specs.StandingLaws.{taken_data, taken_other, finish_end, finish_fault, finish_next}
 use Rattle.e57_stream.specs.Taking.{short_at, restart_at_place, is_walk_kind, SamePlace, InNext, TakesPacket, Finishes, IsFinishCause, TakesNone}
@@ -133,6 +132,7 @@ takes_empty old new kept now b before n held loads = takes_other old new kept no
 pub none_end : (old : SourceView) (b : Bytestream) (before : Chunk) (found : ReadFault) → b.section.end < before.taken + 4 → found ≡ Refused (short_at b before.at) → TakesNone old b before found before old
 none_end old b before found over is = rw is record {
   same = refl;
+  near = asks_near_nothing before.taken b.section.end old;
   met = asks_met_none (InNext b before) old;
   cause = (
     refl,
@@ -153,6 +153,7 @@ none_next old new kept now b before n restart held found later begins loads is =
     let within = loads.within in
     rw is record {
       same = refl;
+      near = asks_near_wider before.taken (before.taken + n) b.section.end old new (omega arith) within (near_loaded old new kept now b.section before.taken (Stream n restart) held loads);
       met = met_loaded old new kept now b before (Stream n restart) held loads;
       cause = (
         restart_kind (b.section.index == 0 && is_none b.fixed) b before.at before.taken,
@@ -176,6 +177,7 @@ finish_cause old b before Source new there cause = cause
 pub none_faulty : (old new : SourceView) (kept now : List ℕ) (b : Bytestream) (before : Chunk) (held : Option (List (List ℕ))) (found : ReadFault) → before.taken + 4 ≤ b.section.end → LosesPacket old kept b.section before.taken found held new now → TakesNone old b before found before new
 none_faulty old new kept now b before held found there loses = record {
   same = refl;
+  near = asks_near_wider before.taken (before.taken + loses.n) b.section.end old new (omega arith) loses.within (packet_near kept before.taken loses.n loses.n old new loses.some (omega arith) loses.source);
   met = next_met old new b before there (packet_met kept before.taken loses.n (λ file. needed_at file b.section before.taken) old new loses.some loses.needed loses.source);
   cause = finish_cause old b before found new there loses.cause;
 }

@@ -1,12 +1,11 @@
 -- Laws of the pages that a reader of a stream asks for: one call after another.
-use Rattle.std.specs.Prelude.{◌≡◌, ℕ, ◌+◌, ◌-◌, ◌/◌, ◌<◌, ◌≤◌, true, List, [], ◌∷◌, ◌++◌, length, Option, Some, None, IfSome}
+use Rattle.std.specs.Prelude.{◌≡◌, ℕ, ◌+◌, ◌-◌, ◌/◌, ◌≤◌, List, [], ◌∷◌, ◌++◌, length, Option, Some, None, IfSome}
 use Rattle.std.specs.List.{AllByRecursion}
-use Rattle.std.proofs.Common.{refl, sym, subst, ap, ◌∙◌, arith, length-append}
+use Rattle.std.proofs.Common.{sym, arith, length-append}
 use Rattle.std.proofs.lemmas.Bool.Decides.{nat_tests}
 use Rattle.e57_base.specs.Source.{SourceView}
 use Rattle.e57_base.specs.Told.{told_map, told_both, told_here}
 use Rattle.e57_page.specs.Place.{span_end, RisesWithin}
-use Rattle.e57_page.specs.Pages.{AsksFor}
 use Rattle.e57_page.specs.PagesLaws.{asks_for_none, asks_for_on}
 use Rattle.e57_sections.specs.Met.{InSpan}
 use Rattle.e57_section.specs.Asking.{AsksPacket}
@@ -73,6 +72,14 @@ asks_near_on low mid high a b c below above f g =
       few = rw length-append (omega (arith, few, few_too));
       asks = asks_for_on f.pages g.pages f.asks g.asks;
     }
+
+-- no pages at all
+pub asks_near_nothing : (low high : ℕ) (source : SourceView) → AsksNear low high source source
+asks_near_nothing low high source = record { pages = []; in_span = tt; few = omega arith; asks = asks_for_none source }
+
+-- pages up to a place are pages up to a later one
+pub asks_near_wider : (low mid high : ℕ) (old new : SourceView) → low ≤ mid → mid ≤ high → AsksNear low mid old new → AsksNear low high old new
+asks_near_wider low mid high old new below above f = asks_near_on low mid high old new new below above f (asks_near_nothing mid high new)
 
 -- ---- the pages of a packet
 

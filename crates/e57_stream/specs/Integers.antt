@@ -1,5 +1,5 @@
 -- Integers of a chunk.
-use Rattle.std.specs.Prelude.{◌≡◌, ℕ, ◌+◌, ◌-◌, ◌*◌, ◌/◌, ◌%◌, ◌<◌, ◌≤◌, ◌⊎◌, min, ℤ, pos, ◌≤ℤ◌, List, length, drop, slice_index_or, Result, Ok, Err}
+use Rattle.std.specs.Prelude.{◌≡◌, ℕ, ◌+◌, ◌*◌, ◌/◌, ◌%◌, ◌<◌, ◌≤◌, min, ℤ, pos, ◌≤ℤ◌, List, length, drop, slice_index_or, Result, Ok, Err}
 use Rattle.std.specs.Int.{int_gap}
 use Rattle.e57_bits.specs.Bits.{number}
 use Rattle.e57_base.specs.Fault.{fault}
@@ -7,7 +7,7 @@ use Rattle.e57_base.specs.Source.{SourceView}
 use Rattle.e57_base.specs.declared.fault.Fault.{Fault}
 use Rattle.e57_base.specs.declared.fault.ReadFault.{ReadFault}
 use Rattle.e57_base.specs.declared.kind.Kind.TheVariants.{ValueRange}
-use Rattle.e57_lanes.specs.Unpack.{Written, Stops}
+use Rattle.e57_lanes.specs.Unpack.{Written}
 use Rattle.e57_layout.specs.Values.{ItemKind, integers, Value, whole}
 use Rattle.e57_layout.specs.Widths.{width}
 use Rattle.e57_stream.specs.declared.bytestream.Bytestream.{Bytestream}

@@ -7,3 +7,4 @@ pub mod StandingLaws
 pub mod Reading
 pub mod ReadingLaws
 pub mod Integers
+pub mod Words

@@ -1,5 +1,5 @@
 -- Reading items of a chunk in a row.
-use Rattle.std.specs.Prelude.{◌≡◌, ℕ, ◌+◌, ◌-◌, ◌*◌, ◌/◌, ◌<◌, ◌≤◌, ◌||◌, min, Bool, true, false, List, Result, Ok, Err, IfSome}
+use Rattle.std.specs.Prelude.{◌≡◌, ℕ, ◌+◌, ◌<◌, ◌≤◌, ◌||◌, min, Bool, true, false, List, Result, Ok, Err, IfSome}
 use Rattle.e57_base.specs.Count.{Rose}
 use Rattle.e57_base.specs.Source.{SourceView}
 use Rattle.e57_base.specs.declared.fault.Fault.{Fault}
@@ -62,10 +62,12 @@ IsItemCause old b kind chunk i (Refused found) new =
     ((is_walk_kind found.kind || is_item_kind found.kind) ≡ true) × IfSome old.held (λ file. IsOf file b kind chunk → chunk_item file b kind chunk i ≡ Err found)
 IsItemCause old b kind chunk i Source new = Rose old.faults new.faults
 
--- Of `want` records `done` items were read, and the next one wasn't. Pages were asked for on the way to these.
+-- Of `want` records `done` items were read, and the next one wasn't. Pages were asked for on the way to these: they lie
+-- between the place before and the section's end.
 pub record StopsAt (old : SourceView) (b : Bytestream) (kind : ItemKind) (before : Chunk) (want done : ℕ) (found : ReadFault) (read : ℕ → Value) (after : Chunk) (new : SourceView) : Type 0 where
   pub below : done < want
   pub stays : StaysIn b kind before after
+  pub near : AsksNear before.taken b.section.end old new
   pub met : AsksMet (λ file p. IsOf file b kind before → IsMet file b kind before before.at (done + 1) p) old new
   pub items : IfSome old.held (λ file. IsOf file b kind before → (j : ℕ) → j < done → chunk_item file b kind before (before.at + j) ≡ Ok (read j))
   pub stands : IfSome old.held (λ file. IsOf file b kind before → IsOf file b kind after)

@@ -1,5 +1,5 @@
 -- Laws of reading items in a row: one call after another, one packet more, some items.
-use Rattle.std.specs.Prelude.{◌≡◌, ℕ, ◌+◌, ◌-◌, ◌*◌, ◌/◌, ◌<◌, ◌≤◌, ◌||◌, min, Bool, true, false, List, ◌++◌, length, take, drop, Option, Some, None, Result, Ok, Err, IfSome}
+use Rattle.std.specs.Prelude.{◌≡◌, ℕ, ◌+◌, ◌-◌, ◌*◌, ◌/◌, ◌%◌, ◌<◌, ◌≤◌, min, List, ◌++◌, length, take, drop, Option, Some, None, Ok, Err, IfSome}
 use Rattle.std.proofs.Common.{refl, sym, subst, ap, ◌∙◌, arith, ⊎_elim, append_assoc, length-append}
 use Rattle.std.proofs.lemmas.Bool.{cases_lt}
 use Rattle.std.proofs.lemmas.List.{take-append-drop, length-take}
@@ -16,15 +16,14 @@ use Rattle.e57_layout.specs.Widths.{width}
 use Rattle.e57_layout.specs.Items.{item_at, above}
 use Rattle.e57_layout.specs.Laws.Items.{bits_at-short, item_at-integers, item_at-words}
 use Rattle.e57_layout.specs.Laws.Found.{Stays, item_at-stays}
-use Rattle.e57_sections.specs.Chunks.{stream_of}
-use Rattle.e57_sections.specs.Met.{InSpan, needed_at, OnWalk, is_short, lacks_item}
-use Rattle.e57_sections.specs.PathItem.{stretch, ended_by, or_short, answer, item_in}
+use Rattle.e57_sections.specs.Met.{lacks_item}
+use Rattle.e57_sections.specs.PathItem.{stretch, ended_by, or_short, item_in}
 use Rattle.e57_sections.specs.Laws.Fronts.{front-walked}
 use Rattle.e57_stream.specs.declared.bytestream.Bytestream.{Bytestream}
 use Rattle.e57_stream.specs.declared.chunk.Chunk.{Chunk}
-use Rattle.e57_stream.specs.Asking.{AsksMet, AsksNear}
-use Rattle.e57_stream.specs.AskingLaws.{asks_met_none, asks_met_on, asks_met_map, asks_near_none, asks_near_on}
-use Rattle.e57_stream.specs.Standing.{whole_bytes, let_gone, moved_on, chunk_at, IsWithin, HasTaken, Reaches, Stands}
+use Rattle.e57_stream.specs.Asking.{AsksMet}
+use Rattle.e57_stream.specs.AskingLaws.{asks_met_none, asks_met_on, asks_met_map, asks_near_none, asks_near_nothing, asks_near_on}
+use Rattle.e57_stream.specs.Standing.{whole_bytes, let_gone, moved_on, IsWithin, HasTaken, Reaches, Stands}
 use Rattle.e57_stream.specs.StandingLaws.{taken_first}
 use Rattle.e57_stream.specs.Taking.{InNext, TakesPacket, Finishes, IsFinishCause, TakesNone}
 use Rattle.e57_stream.specs.Reading.{chunk_item, IsMet, IsOf, StaysIn, ReadsItems, IsItemCause, StopsAt}
@@ -132,6 +131,7 @@ stops_on old mid new b kind first second third want n m found front back read sa
     record {
       below = omega (arith, below);
       stays = stays_on b kind first second third f.stays g.stays;
+      near = asks_near_on first.taken second.taken b.section.end old mid new f.stays.onward f.stays.within.taken_within f.near g.near;
       met = asks_met_on (λ file p. IsOf file b kind first → IsMet file b kind first first.at (n + m + 1) p) old mid new
           (asks_met_map (λ file p. IsOf file b kind first → IsMet file b kind first first.at (min (n + 1) want) p) (λ file p. IsOf file b kind first → IsMet file b kind first first.at (n + m + 1) p) old mid
           (told_all (λ file. (p : ℕ) → (IsOf file b kind first → IsMet file b kind first first.at (min (n + 1) want) p) → IsOf file b kind first → IsMet file b kind first first.at (n + m + 1) p) old.held
@@ -276,7 +276,7 @@ reads_none old new b kind before after want read numbers some within lacks takes
         until = until;
         entry = takes.same.entry;
         onward = omega (arith, there);
-        within = record { low = rw (at, start) low; high = rw (at, until) high; most = rw until most; taken_within = takes.within; begins = rw (at, start, bit) (omega (arith, begins)) };
+        within = record { low = rw (at, start) low; high = rw (at, until) high; most = rw until most; taken_within = takes.within; begins = rw (at, start, bit) (omega (arith, begins)); whole = λ even. let byte = within.whole even in rw bit (omega (arith, byte)) };
       };
       at = omega (arith, at);
       near = takes.near;
@@ -316,8 +316,9 @@ stops_short old new b kind before after want found read numbers some within lack
         until = refl;
         entry = refl;
         onward = omega arith;
-        within = record { low = low; high = within.high; most = within.most; taken_within = within.taken_within; begins = omega (arith, begins) };
+        within = record { low = low; high = within.high; most = within.most; taken_within = within.taken_within; begins = omega (arith, begins); whole = λ even. let byte = within.whole even in omega (arith, byte) };
       };
+      near = none.near;
       met = next_asked old new b kind before 1 (omega arith) numbers lacks none.met;
       items = told_all (λ file. IsOf file b kind before → (j : ℕ) → j < 0 → chunk_item file b kind before (before.at + j) ≡ Ok (read j)) old.held (λ file is j below. absurd (omega arith));
       stands = told_all (λ file. IsOf file b kind before → IsOf file b kind (let_gone before)) old.held (λ file is. stands_gone file b (kind_width kind) before is);
@@ -332,6 +333,14 @@ AreHere kind chunk m read = (front : List ℕ) → 8 * length front + chunk.bit 
 
 spread : (w a s m : ℕ) → s ≤ a → w * (a + m - s) ≡ w * (a - s) + w * m
 spread w a s m low = let e : a + m - s ≡ a - s + m = omega arith in rw e (omega arith)
+
+-- behind items of whole bytes a whole byte begins
+whole_on : (w bit m : ℕ) → w % 8 ≡ 0 → bit % 8 ≡ 0 → (bit + w * m) % 8 ≡ 0
+whole_on w bit m even byte =
+    let parts : w ≡ 8 * (w / 8) = omega (arith, even) in
+    let all : w * m ≡ 8 * (w / 8) * m = ap (λ (v : ℕ). v * m) parts in
+    let same : 8 * (w / 8) * m ≡ 8 * (w / 8 * m) = grind arith in
+    omega (arith, all, same, byte)
 
 items_here : (file : List ℕ) (b : Bytestream) (kind : ItemKind) (before : Chunk) (m : ℕ) (read : ℕ → Value) → before.start ≤ before.at → AreHere kind before m read → IsOf file b kind before → (j : ℕ) → j < m → chunk_item file b kind before (before.at + j) ≡ Ok (read j)
 items_here file b kind before m read low each is j below =
@@ -353,7 +362,7 @@ reads_taken source b kind before want m read few room within each =
         until = refl;
         entry = refl;
         onward = omega arith;
-        within = record { low = omega (arith, low); high = room; most = within.most; taken_within = within.taken_within; begins = omega (arith, begins, more) };
+        within = record { low = omega (arith, low); high = room; most = within.most; taken_within = within.taken_within; begins = omega (arith, begins, more); whole = λ even. whole_on (kind_width kind) before.bit m even (within.whole even) };
       };
       at = refl;
       near = asks_near_none before.taken source;
@@ -374,6 +383,7 @@ stops_out source b kind before want k found read below within each out is =
     (record {
       below = below;
       stays = record { start = refl; until = refl; entry = refl; onward = omega arith; within = within };
+      near = asks_near_nothing before.taken b.section.end source;
       met = asks_met_none (λ file p. IsOf file b kind before → IsMet file b kind before before.at (k + 1) p) source;
       items = told_all (λ file. IsOf file b kind before → (j : ℕ) → j < k → chunk_item file b kind before (before.at + j) ≡ Ok (read j)) source.held (λ file of j near. items_here file b kind before k read low each of j near);
       stands = told_all (λ file. IsOf file b kind before → IsOf file b kind before) source.held (λ file of. of);

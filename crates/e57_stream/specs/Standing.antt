@@ -1,5 +1,5 @@
 -- Where a reader of a field's stream stands in a chunk.
-use Rattle.std.specs.Prelude.{◌≡◌, ℕ, ◌+◌, ◌-◌, ◌*◌, ◌/◌, ◌<◌, ◌≤◌, ◌⊎◌, min, Bool, true, false, List, [], ◌++◌, length, drop}
+use Rattle.std.specs.Prelude.{◌≡◌, ℕ, ◌+◌, ◌-◌, ◌*◌, ◌/◌, ◌%◌, ◌<◌, ◌≤◌, ◌⊎◌, min, Bool, true, false, List, [], ◌++◌, length, drop}
 use Rattle.e57_layout.specs.declared.section.Section.{Section}
 use Rattle.e57_sections.specs.Walk.{Packet}
 use Rattle.e57_sections.specs.Chunks.{data_packets, stream_of, by_chunk}
@@ -38,13 +38,15 @@ abbrev pub chunk_at : Chunk → ChunkAt
 chunk_at chunk = record { first = chunk.start; until = chunk.until; place = chunk.entry }
 
 -- What holds whatever the file: the next record is one of the chunk or the first one past it, the packets that were taken
--- lie in the section, and the next item of w bits begins in the window or after it, and no later than the records say.
+-- lie in the section, and the next item of w bits begins in the window or after it, and no later than the records say. An item
+-- of whole bytes begins at a whole byte.
 pub record IsWithin (s : Section) (w : ℕ) (chunk : Chunk) : Type 0 where
   pub low : chunk.start ≤ chunk.at
   pub high : chunk.at ≤ chunk.until
   pub most : chunk.until ≤ most_records
   pub taken_within : chunk.taken ≤ s.end
   pub begins : chunk.bit ≤ w * (chunk.at - chunk.start)
+  pub whole : w % 8 ≡ 0 → chunk.bit % 8 ≡ 0
 
 -- no data packet is among these, or one is
 abbrev pub IsFresh : Bool → List Packet → Type 0

@@ -1,20 +1,19 @@
 -- Laws of where a reader stands in a chunk: one packet more, and how the chunk ends.
-use Rattle.std.specs.Prelude.{◌≡◌, ℕ, zero, suc, ◌+◌, ◌-◌, ◌*◌, ◌<◌, ◌≤◌, ◌==◌, ◌&&◌, ◌⊎◌, Bool, true, false, if◌then◌else◌, List, [], ◌∷◌, ◌++◌, length, get_or, Option, Some, None, is_none, Err}
+use Rattle.std.specs.Prelude.{◌≡◌, ℕ, suc, ◌+◌, ◌<◌, ◌≤◌, ◌==◌, ◌&&◌, ◌⊎◌, Bool, true, false, if◌then◌else◌, List, [], ◌∷◌, ◌++◌, length, get_or, Option, Some, None, is_none, Err}
 use Rattle.std.specs.List.{onto_first}
-use Rattle.std.proofs.Common.{refl, sym, subst, ap, ◌∙◌, arith, inl, inr, ⊎_elim, append-nil, append_assoc}
+use Rattle.std.proofs.Common.{refl, sym, ap, ◌∙◌, arith, inl, inr, ⊎_elim, append-nil}
 use Rattle.std.proofs.lemmas.Bool.{cases_Bool}
 use Rattle.e57_base.specs.declared.fault.Fault.{Fault}
 use Rattle.e57_base.specs.Fault.{fault}
 use Rattle.e57_base.specs.declared.kind.Kind.TheVariants.{RestartUnindexed}
 use Rattle.e57_page.specs.File.{logical}
 use Rattle.e57_layout.specs.Packets.{length_at, restart_at}
-use Rattle.e57_layout.specs.declared.section.Section.{Section}
 use Rattle.e57_sections.specs.Walk.{Packet, packet_at, packet_fault, Walk, walk_from}
 use Rattle.e57_sections.specs.Chunks.{data_packets, stream_of, cut, by_chunk}
-use Rattle.e57_sections.specs.PathItem.{Stretch, stretch_of, stretch, or_short}
+use Rattle.e57_sections.specs.PathItem.{stretch_of, stretch, or_short}
 use Rattle.e57_sections.specs.Laws.Chunks.{data-append, cut-restart}
 use Rattle.e57_sections.specs.Laws.Pieces.{data-yes, data-other, cut-on, cut-none, by_chunk-is, data-none}
-use Rattle.e57_sections.specs.Laws.Fronts.{IsFront, front-more, front-walk, stretch-end, stretch-fault, stretch-next, first-one, same-one, stream_of-append}
+use Rattle.e57_sections.specs.Laws.Fronts.{front-more, front-walk, stretch-end, stretch-fault, stretch-next, first-one, same-one, stream_of-append}
 use Rattle.e57_stream.specs.declared.bytestream.Bytestream.{Bytestream}
 use Rattle.e57_stream.specs.Standing.{IsFresh, HasTaken}
 use Rattle.e57_stream.specs.Taking.{short_at, restart_at_place, Finishes}

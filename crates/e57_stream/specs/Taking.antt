@@ -1,5 +1,5 @@
 -- What taking a packet of a chunk does.
-use Rattle.std.specs.Prelude.{◌≡◌, ℕ, ◌+◌, ◌≤◌, ◌==◌, ◌&&◌, ◌||◌, Bool, true, false, if◌then◌else◌, List, [], ◌++◌, Option, Some, None, is_none, Err, IfSome}
+use Rattle.std.specs.Prelude.{◌≡◌, ℕ, ◌+◌, ◌≤◌, ◌==◌, ◌&&◌, ◌||◌, Bool, true, false, if◌then◌else◌, List, ◌++◌, is_none, Err, IfSome}
 use Rattle.e57_base.specs.Count.{Rose}
 use Rattle.e57_base.specs.Fault.{fault}
 use Rattle.e57_base.specs.Source.{SourceView}
@@ -67,8 +67,10 @@ IsFinishCause old b chunk (Refused found) new =
     (is_walk_kind found.kind ≡ true) × IfSome old.held (λ file. (front : List ℕ) → Reaches file b chunk front → Finishes file b chunk.entry chunk.at (front ++ chunk.window) found)
 IsFinishCause old b chunk Source new = Rose old.faults new.faults
 
--- No packet was taken, since the chunk has no more, or the source failed. The state is as it was.
+-- No packet was taken, since the chunk has no more, or the source failed. The state is as it was. Pages were asked for from
+-- the place before on, up to the section's end at most.
 pub record TakesNone (old : SourceView) (b : Bytestream) (before : Chunk) (found : ReadFault) (after : Chunk) (new : SourceView) : Type 0 where
   pub same : after ≡ before
+  pub near : AsksNear before.taken b.section.end old new
   pub met : AsksMet (InNext b before) old new
   pub cause : IsFinishCause old b before found new

@@ -1,7 +1,7 @@
 //! Where a reader stands in a chunk.
 
-ghost use Rattle.std.specs.Prelude.{◌≡◌};
-ghost use Rattle.e57_stream.specs.Standing.{let_gone};
+ghost use Rattle.std.specs.Prelude.{◌≡◌, ◌+◌, ◌-◌, ◌*◌, ◌/◌, ◌<◌, ◌≤◌, min, length};
+ghost use Rattle.e57_stream.specs.Standing.{let_gone, items_held, wanted as the_wanted};
 
 use crate::window::Window;
 
@@ -39,4 +39,35 @@ pub fn let_go(chunk: &mut Chunk)
     };
     chunk.window.skip(gone);
     chunk.bit -= 8 * gone as u64;
+}
+
+/// How many records are read into so many places: as many as the chunk has left at most.
+pub(crate) fn wanted(chunk: &Chunk, places: usize) -> usize
+    requires { chunk.now.at ≤ chunk.now.until }
+    ensures { result ≡ the_wanted chunk.now places }
+{
+    let left = chunk.until - chunk.at;
+    if left < places as u64 {
+        left as usize
+    } else {
+        places
+    }
+}
+
+/// How many items of so many bits are read from the window into so many places: as many as it has at most.
+pub(crate) fn held_for(chunk: &Chunk, width: u8, places: usize) -> usize
+    requires { 0 < width }
+    ensures { result ≡ min places (items_held width chunk.now) }
+{
+    let bits = 8 * chunk.window.len() as u64;
+    let held = if chunk.bit < bits {
+        (bits - chunk.bit) / width as u64
+    } else {
+        0
+    };
+    if held < places as u64 {
+        held as usize
+    } else {
+        places
+    }
 }

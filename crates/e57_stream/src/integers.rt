@@ -1,16 +1,16 @@
 //! Reading integers of a chunk.
 
-ghost use Rattle.std.specs.Prelude.{◌≡◌, ◌+◌, ◌-◌, ◌*◌, ◌/◌, ◌%◌, ◌<◌, ◌≤◌, ◌⊎◌, drop, min, length, MatchResult, OnOk, if◌then◌else◌};
+ghost use Rattle.std.specs.Prelude.{◌≡◌, ◌+◌, ◌-◌, ◌*◌, ◌/◌, ◌%◌, ◌<◌, ◌≤◌, ◌⊎◌, drop, length, MatchResult, OnOk};
 ghost use Rattle.std.specs.Int.{int_gap};
 ghost use Rattle.e57_base.specs.Source.{page_length};
 ghost use Rattle.e57_page.specs.Place.{payload_length};
 ghost use Rattle.e57_lanes.specs.Unpack.{Unpacks};
 ghost use Rattle.e57_section.specs.Opening.{LiesIn};
-ghost use Rattle.e57_stream.specs.Standing.{IsWithin, IsOnward, items_held as the_items_held, wanted as the_wanted};
+ghost use Rattle.e57_stream.specs.Standing.{IsWithin, IsOnward, wanted as the_wanted};
 ghost use Rattle.e57_stream.specs.Integers.{IsRange, range_at, TakesIntegers, ReadsIntegers, StopsIntegers};
 
 use crate::bytestream::{Bytestream, Integers, Stopped};
-use crate::chunk::{Chunk, let_go};
+use crate::chunk::{Chunk, held_for, let_go, wanted};
 use crate::taking::take_packet;
 use e57_base::{Fault, Kind, ReadFault, Source};
 use e57_lanes::unpack;
@@ -41,9 +41,13 @@ pub fn read_integers<S: Source>(
     requires within { IsWithin stream.now.section range.now.width chunk.old }
     ensures length { pages.new.length ≡ pages.old.length }
     ensures header { pages.new.header ≡ pages.old.header }
+    ensures within { IsWithin stream.now.section range.now.width chunk.new }
     ensures items { MatchResult result
-        (λ n. (n ≡ the_wanted chunk.old (length out.old)) × ReadsIntegers (S.view pages.old.source) stream.now range.now chunk.old (the_wanted chunk.old (length out.old)) n out.old out.new chunk.new (S.view pages.new.source))
-        (λ stopped. StopsIntegers (S.view pages.old.source) stream.now range.now chunk.old (the_wanted chunk.old (length out.old)) stopped.done stopped.fault out.old out.new chunk.new (S.view pages.new.source)) }
+        (λ n. (n ≡ the_wanted chunk.old (length out.old))
+        × ReadsIntegers (S.view pages.old.source) stream.now range.now chunk.old (the_wanted chunk.old (length out.old)) n
+        out.old out.new chunk.new (S.view pages.new.source))
+        (λ stopped. StopsIntegers (S.view pages.old.source) stream.now range.now chunk.old (the_wanted chunk.old (length out.old))
+        stopped.done stopped.fault out.old out.new chunk.new (S.view pages.new.source)) }
 {
     let want = wanted(chunk, out.len());
     let mut done = 0;
@@ -59,19 +63,6 @@ pub fn read_integers<S: Source>(
         }
     }
     Ok(done)
-}
-
-/// How many records are read into so many places: as many as the chunk has left at most.
-pub(crate) fn wanted(chunk: &Chunk, places: usize) -> usize
-    requires { chunk.now.at ≤ chunk.now.until }
-    ensures { result ≡ the_wanted chunk.now places }
-{
-    let left = chunk.until - chunk.at;
-    if left < places as u64 {
-        left as usize
-    } else {
-        places
-    }
 }
 
 /// Reads the items that the window has, or takes a packet where it has none.
@@ -93,8 +84,10 @@ fn step_integers<S: Source>(
     ensures header { pages.new.header ≡ pages.old.header }
     ensures onward { OnOk result (IsOnward chunk.old chunk.new) }
     ensures items { MatchResult result
-        (λ n. ReadsIntegers (S.view pages.old.source) stream.now range.now chunk.old (length out.old) n out.old out.new chunk.new (S.view pages.new.source))
-        (λ stopped. StopsIntegers (S.view pages.old.source) stream.now range.now chunk.old (length out.old) stopped.done stopped.fault out.old out.new chunk.new (S.view pages.new.source)) }
+        (λ n. ReadsIntegers (S.view pages.old.source) stream.now range.now chunk.old (length out.old) n
+        out.old out.new chunk.new (S.view pages.new.source))
+        (λ stopped. StopsIntegers (S.view pages.old.source) stream.now range.now chunk.old (length out.old)
+        stopped.done stopped.fault out.old out.new chunk.new (S.view pages.new.source)) }
 {
     let at = chunk.at;
     match take_integers(range, chunk, out) {
@@ -124,19 +117,6 @@ fn out_of_range(stream: &Bytestream, at: u64) -> ReadFault
     ReadFault::Refused(Fault::new(Kind::ValueRange, at, stream.node as u64))
 }
 
-/// How many items of so many bits the window has.
-pub(crate) fn items_held(chunk: &Chunk, width: u8) -> u64
-    requires { 0 < width }
-    ensures { result ≡ the_items_held width chunk.now }
-{
-    let bits = 8 * chunk.window.len() as u64;
-    if chunk.bit < bits {
-        (bits - chunk.bit) / width as u64
-    } else {
-        0
-    }
-}
-
 /// Reads the items that the window has, as many as there are places for. `Err(k)`: item k is the first above the highest
 /// value; those before it are read, and the state is as it was.
 fn take_integers(range: &Integers, chunk: &mut Chunk, out: &mut [i64]) -> Result<usize, usize>
@@ -144,13 +124,8 @@ fn take_integers(range: &Integers, chunk: &mut Chunk, out: &mut [i64]) -> Result
     requires left { chunk.old.at + length out.old ≤ chunk.old.until }
     ensures { TakesIntegers range.now chunk.old out.old result chunk.new out.new }
 {
-    let held = items_held(chunk, range.width);
+    let count = held_for(chunk, range.width, out.len());
     let until = chunk.until;
-    let count = if held < out.len() as u64 {
-        held as usize
-    } else {
-        out.len()
-    };
     prove!(count as u64 <= until);
     if count == 0 {
         return Ok(0);

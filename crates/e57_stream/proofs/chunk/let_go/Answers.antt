@@ -1,4 +1,4 @@
-use Rattle.std.proofs.Common.{◌≡◌, ◌+◌, ◌-◌, ◌*◌, ◌/◌, ◌<◌, ◌≤◌, arith, refl}
+use Rattle.std.proofs.Common.{◌≡◌, arith, refl}
 use Rattle.e57_stream.specs.Standing.{let_gone, whole_bytes}
 use Rattle.e57_stream.proofs.chunk.let_go.Goals as goal
 use Rattle.e57_stream.proofs.chunk.let_go.Goals.{then-whole-held, else-whole-held}

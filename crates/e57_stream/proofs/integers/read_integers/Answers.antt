@@ -1,9 +1,5 @@
-use Rattle.std.proofs.Common.{◌≡◌, ℕ, ◌+◌, ◌-◌, ◌<◌, ◌≤◌, List, length, take, drop, refl, sym, subst, ap, ◌∙◌, arith}
-use Rattle.std.specs.Prelude.{min, ℤ}
-use Rattle.e57_section.specs.Opening.{LiesIn}
-use Rattle.e57_stream.specs.Standing.{wanted}
-use Rattle.e57_stream.specs.Integers.{ReadsIntegers}
-use Rattle.e57_stream.proofs.IntegerSteps.{length_of_part, reads_integers_none, may_step, step_smaller, reads_integers_on, stops_integers_on}
+use Rattle.std.proofs.Common.{◌-◌, ◌≤◌, length, take, drop, refl, ◌∙◌, arith}
+use Rattle.e57_stream.proofs.IntegerSteps.{reads_integers_on, stops_integers_on}
 use Rattle.e57_stream.proofs.integers.read_integers.Goals as goal
 
 pub loop-done-preserved : goal.loop-done-preserved

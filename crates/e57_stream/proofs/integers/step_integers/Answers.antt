@@ -1,6 +1,6 @@
-use Rattle.std.proofs.Common.{◌≤◌, inr}
+use Rattle.std.proofs.Common.{inr}
 use Rattle.e57_stream.proofs.IntegerItems.{reads_integers, stops_integers}
-use Rattle.e57_stream.proofs.IntegerSteps.{takes_zero, onward_items, may_take, reads_packet, stops_packet}
+use Rattle.e57_stream.proofs.IntegerSteps.{onward_items, may_take_on, reads_packet, stops_packet}
 use Rattle.e57_stream.proofs.integers.step_integers.Goals as goal
 
 pub returns-then-n-gt0-clause-onward : goal.returns-then-n-gt0-clause-onward
@@ -16,25 +16,20 @@ returns-in-Err-clause-items g c =
 
 pub take_packet-requires-clause-within : goal.take_packet-requires-clause-within
 take_packet-requires-clause-within g c =
-    let none = takes_zero c.args.range.now c.args.chunk.now c.take_integers.new.chunk c.args.out.now c.take_integers.new.out c.in-Ok.n c.if-n-gt0.false c.in-Ok.ensures in
-    (may_take c.args.stream.now c.args.range.now c.args.chunk.now c.take_integers.new.chunk c.let_go.new.chunk c.args.out.now c.take_integers.new.out c.requires.range c.requires.within.taken_within c.requires.some none c.let_go.ensures).within
+    (may_take_on c.args.stream.now c.args.range.now c.args.chunk.now c.take_integers.new.chunk c.let_go.new.chunk c.args.out.now c.take_integers.new.out c.in-Ok.n c.requires.range c.requires.within.taken_within c.requires.some c.if-n-gt0.false c.in-Ok.ensures c.let_go.ensures).within
 
 pub take_packet-requires-clause-left : goal.take_packet-requires-clause-left
 take_packet-requires-clause-left g c =
-    let none = takes_zero c.args.range.now c.args.chunk.now c.take_integers.new.chunk c.args.out.now c.take_integers.new.out c.in-Ok.n c.if-n-gt0.false c.in-Ok.ensures in
-    (may_take c.args.stream.now c.args.range.now c.args.chunk.now c.take_integers.new.chunk c.let_go.new.chunk c.args.out.now c.take_integers.new.out c.requires.range c.requires.within.taken_within c.requires.some none c.let_go.ensures).left
+    (may_take_on c.args.stream.now c.args.range.now c.args.chunk.now c.take_integers.new.chunk c.let_go.new.chunk c.args.out.now c.take_integers.new.out c.in-Ok.n c.requires.range c.requires.within.taken_within c.requires.some c.if-n-gt0.false c.in-Ok.ensures c.let_go.ensures).left
 
 pub returns-in-Ok-take_packet-clause-onward : goal.returns-in-Ok-take_packet-clause-onward
 returns-in-Ok-take_packet-clause-onward g c =
-    let none = takes_zero c.args.range.now c.args.chunk.now c.take_integers.new.chunk c.args.out.now c.take_integers.new.out c.in-Ok.n c.if-n-gt0.false c.in-Ok.ensures in
-    inr (reads_packet (g.S.Source.view c.args.pages.now.source) (g.S.Source.view c.take_packet.new.pages.source) c.args.stream.now c.args.range.now c.args.chunk.now c.take_integers.new.chunk c.let_go.new.chunk c.take_packet.new.chunk c.args.out.now c.take_integers.new.out c.requires.range c.requires.within c.requires.some none c.let_go.ensures c.in-Ok-take_packet.ensures.packet).1
+    inr (reads_packet (g.S.Source.view c.args.pages.now.source) (g.S.Source.view c.take_packet.new.pages.source) c.args.stream.now c.args.range.now c.args.chunk.now c.take_integers.new.chunk c.let_go.new.chunk c.take_packet.new.chunk c.args.out.now c.take_integers.new.out c.in-Ok.n c.requires.range c.requires.within c.requires.some c.if-n-gt0.false c.in-Ok.ensures c.let_go.ensures c.in-Ok-take_packet.ensures.packet).1
 
 pub returns-in-Ok-take_packet-clause-items : goal.returns-in-Ok-take_packet-clause-items
 returns-in-Ok-take_packet-clause-items g c =
-    let none = takes_zero c.args.range.now c.args.chunk.now c.take_integers.new.chunk c.args.out.now c.take_integers.new.out c.in-Ok.n c.if-n-gt0.false c.in-Ok.ensures in
-    (reads_packet (g.S.Source.view c.args.pages.now.source) (g.S.Source.view c.take_packet.new.pages.source) c.args.stream.now c.args.range.now c.args.chunk.now c.take_integers.new.chunk c.let_go.new.chunk c.take_packet.new.chunk c.args.out.now c.take_integers.new.out c.requires.range c.requires.within c.requires.some none c.let_go.ensures c.in-Ok-take_packet.ensures.packet).0
+    (reads_packet (g.S.Source.view c.args.pages.now.source) (g.S.Source.view c.take_packet.new.pages.source) c.args.stream.now c.args.range.now c.args.chunk.now c.take_integers.new.chunk c.let_go.new.chunk c.take_packet.new.chunk c.args.out.now c.take_integers.new.out c.in-Ok.n c.requires.range c.requires.within c.requires.some c.if-n-gt0.false c.in-Ok.ensures c.let_go.ensures c.in-Ok-take_packet.ensures.packet).0
 
 pub returns-in-Err-take_packet-clause-items : goal.returns-in-Err-take_packet-clause-items
 returns-in-Err-take_packet-clause-items g c =
-    let none = takes_zero c.args.range.now c.args.chunk.now c.take_integers.new.chunk c.args.out.now c.take_integers.new.out c.in-Ok.n c.if-n-gt0.false c.in-Ok.ensures in
-    stops_packet (g.S.Source.view c.args.pages.now.source) (g.S.Source.view c.take_packet.new.pages.source) c.args.stream.now c.args.range.now c.args.chunk.now c.take_integers.new.chunk c.let_go.new.chunk c.take_packet.new.chunk c.args.out.now c.take_integers.new.out c.in-Err-take_packet.fault c.requires.range c.requires.within c.requires.some none c.let_go.ensures c.in-Err-take_packet.ensures.packet
+    stops_packet (g.S.Source.view c.args.pages.now.source) (g.S.Source.view c.take_packet.new.pages.source) c.args.stream.now c.args.range.now c.args.chunk.now c.take_integers.new.chunk c.let_go.new.chunk c.take_packet.new.chunk c.args.out.now c.take_integers.new.out c.in-Ok.n c.in-Err-take_packet.fault c.requires.range c.requires.within c.requires.some c.if-n-gt0.false c.in-Ok.ensures c.let_go.ensures c.in-Err-take_packet.ensures.packet

@@ -1,4 +1,4 @@
-use Rattle.std.proofs.Common.{rules, length, FitsSigned, w64, to_z, of_z}
+use Rattle.std.proofs.Common.{rules, length, FitsSigned, w64}
 use Rattle.std.proofs.Math.Facts.{to_z-of_z}
 use Rattle.std.proofs.lemmas.List.{take_rest}
 use Rattle.e57_stream.proofs.Unpackings.{can_unpack}

@@ -1,7 +1,4 @@
-use Rattle.std.proofs.Common.{◌≡◌, ◌+◌, ◌<◌, ◌≤◌, ◌⊎◌, true, false, inl, inr, sym, ap, ◌∙◌, subst, arith}
-use Rattle.e57_section.specs.declared.load.Loaded.{Loaded}
-use Rattle.e57_section.specs.declared.load.Loaded.TheVariants.{Stream, Index, Empty}
-use Rattle.e57_section.specs.Loading.{LoadsPacket}
+use Rattle.std.proofs.Common.{◌≡◌, ◌⊎◌, true, false, inl, inr, arith}
 use Rattle.e57_stream.proofs.Takings.{takes_data, takes_index, takes_empty, none_end, none_next, none_faulty}
 use Rattle.e57_stream.proofs.taking.take_packet.Goals as goal
 use Rattle.e57_stream.proofs.taking.take_packet.Goals.{else-restart-via-then-restart+else-not-chunk, else-restart-via-else-restart}
