@@ -1,0 +1,13 @@
+pub mod Finders
+pub mod Ways
+pub mod Apart
+pub mod Entering
+pub mod Arriving
+pub mod Skipping
+pub mod Parts
+pub mod Chunks
+pub mod Joining
+pub mod Integers
+pub mod Words
+pub mod Strings
+pub mod ItemKinds

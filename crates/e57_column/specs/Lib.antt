@@ -1,0 +1,7 @@
+pub mod Finding
+pub mod Column
+pub mod Asking
+pub mod Reading
+pub mod Texts
+pub mod Going
+pub mod CloudLaws
