@@ -1,0 +1,13 @@
+//! The records of a cloud, one field at a time (ASTM E2807, compressed vector binary sections): a field's items are read ahead
+//! block by block, and looked at by the numbers of their records. For all who go over several fields side by side.
+#![tactic(auto)]
+
+mod block;
+mod buffer;
+mod read;
+mod texts;
+
+pub use block::{FieldBlock, Item};
+
+#[cfg(test)]
+mod tests;
