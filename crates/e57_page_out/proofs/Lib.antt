@@ -1,1 +1,11 @@
 pub mod HeaderPieces
+pub mod Words
+pub mod Rows
+pub mod Unfinished
+pub mod States
+pub mod Turning
+pub mod Steps
+pub mod Opening
+pub mod Holding
+pub mod Putting
+pub mod Closing
