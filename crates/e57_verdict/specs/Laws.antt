@@ -1,0 +1,3 @@
+-- What holds of verdicts and contents.
+pub mod Opening
+pub mod Verdicts

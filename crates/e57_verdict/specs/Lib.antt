@@ -1,0 +1,5 @@
+pub mod Blob
+pub mod Things
+pub mod Verdict
+pub mod Content
+pub mod Laws

@@ -1,0 +1,7 @@
+//! The verdict on a file, and the content of an accepted one (ASTM E2807): definitions and their laws; no call computes
+//! them here.
+#![tactic(auto)]
+
+mod laws;
+
+pub use laws::{one_content, one_verdict, opening_agrees};
