@@ -1,0 +1,4 @@
+mod Cases
+mod Lawful
+mod Columns
+mod TwoChunks

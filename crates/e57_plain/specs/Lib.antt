@@ -1,0 +1,6 @@
+pub mod Valid
+pub mod Written
+pub mod Tight
+pub mod Pruned
+pub mod Kept
+pub mod Laws

@@ -1,0 +1,7 @@
+//! The written form of a content (ASTM E2807, file structure): one file for each content and each length of chunks.
+//! Definitions and their laws; no call computes them here.
+#![tactic(auto)]
+
+mod laws;
+
+pub use laws::{accepted_content, kept_records, narrow_limits, written_form};
