@@ -1,3 +1,4 @@
 pub mod Sections
 pub mod NodeKinds
 pub mod Opening
+pub mod Blobs

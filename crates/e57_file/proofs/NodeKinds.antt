@@ -1,5 +1,5 @@
 -- The kinds of faults that nodes have.
-use Rattle.std.proofs.Common.{◌≡◌, ℕ, ◌+◌, ◌==◌, Bool, true, false, ◌&&◌, ◌||◌, not, List, [], ◌∷◌, ◌++◌, length, find, slice_get, Option, Some, None, refl, subst, sym, pos}
+use Rattle.std.proofs.Common.{◌≡◌, ℕ, ◌+◌, ◌==◌, Bool, true, false, ◌&&◌, ◌||◌, not, List, [], ◌∷◌, ◌++◌, length, find, slice_get, Option, Some, None, refl, subst, pos}
 use Rattle.std.specs.Prelude.{nat_lt, int_lt, codes, is_some, option_map, unwrap_or, if◌then◌else◌}
 use Rattle.std.specs.Option.{option_or}
 use Rattle.std.specs.Str.{bytes_eq}
@@ -12,7 +12,7 @@ use Rattle.e57_nodes.specs.Facts.{Facts}
 use Rattle.e57_nodes.specs.Shape.{Shape, shape, Shapes, no_shapes, shapes, node_count, Node, node_at, children_of, nodes_below}
 use Rattle.e57_nodes.specs.Places.{has_section}
 use Rattle.e57_nodes.specs.Fields.{child_named, fields_of}
-use Rattle.e57_nodes.specs.Typed.{max_records, max_fields, type_fault, name_fault, is_misplaced, vector_child_fault, leaf_child_fault, child_fault, integer_fault, float_fault, vector_attr_fault, blob_attr_fault, attr_fault, order_fault, limits_fault, codecs_fault, is_structure, prototype_fault, field_count_fault, record_limit_fault, fields_fault, compressed_vector_fault, rules_fault, node_fault, names_differ, namesake_of, tree_fault, trees_fault}
+use Rattle.e57_nodes.specs.Typed.{max_records, max_fields, type_fault, name_fault, is_misplaced, vector_child_fault, leaf_child_fault, child_fault, integer_fault, vector_attr_fault, blob_attr_fault, attr_fault, order_fault, limits_fault, codecs_fault, is_structure, prototype_fault, field_count_fault, record_limit_fault, fields_fault, compressed_vector_fault, rules_fault, node_fault, names_differ, namesake_of, tree_fault, trees_fault}
 use Rattle.e57_file.specs.Opened.{is_node_kind}
 
 -- the fault where the test holds

@@ -1,12 +1,12 @@
 -- How a file is opened, from how its text was read and its nodes were judged.
-use Rattle.std.proofs.Common.{◌≡◌, ℕ, ◌*◌, ◌/◌, slice_get, Bool, true, false, ◌||◌, List, Option, Some, None, Result, Ok, Err, inl, inr, refl, sym, ap, subst, ◌∙◌}
-use Rattle.std.specs.Prelude.{IfSome, IfErr, MatchOption, MatchResult, IsErrAnd}
+use Rattle.std.proofs.Common.{◌≡◌, ℕ, ◌*◌, ◌/◌, slice_get, Bool, true, false, ◌||◌, List, Option, Some, None, Result, Ok, Err, inr, refl, sym, subst, ◌∙◌}
+use Rattle.std.specs.Prelude.{IfSome, IfErr, MatchOption, IsErrAnd}
 use Rattle.e57_base.specs.Fault.{text_as_open}
 use Rattle.e57_base.specs.Source.{SourceView}
-use Rattle.e57_base.specs.Told.{told_map, told_both}
+use Rattle.e57_base.specs.Told.{told_both}
 use Rattle.e57_base.specs.declared.fault.Fault.{Fault}
 use Rattle.e57_base.specs.declared.fault.OpenFault.{OpenFault}
-use Rattle.e57_base.specs.declared.fault.OpenFault.TheVariants.{Refused, Source, Memory}
+use Rattle.e57_base.specs.declared.fault.OpenFault.TheVariants.{Refused}
 use Rattle.e57_base.specs.declared.fault.TextFault.{TextFault}
 use Rattle.e57_base.specs.declared.fault.TextFault.TheVariants as text
 use Rattle.e57_base.specs.declared.kind.Kind.{Kind}
@@ -21,8 +21,8 @@ use Rattle.e57_layout.specs.declared.field.Field.{Field}
 use Rattle.e57_nodes.specs.Shape.{shape_of}
 use Rattle.e57_nodes.specs.Typed.{typed_fault}
 use Rattle.e57_tree.specs.Judged.{IsJudged}
-use Rattle.e57_file.specs.Text.{section_fault, section_text, IsTextFault, is_text_kind, is_place_kind, IsPastPlace, JudgesPlace, IsTextRead, IsTextCause}
-use Rattle.e57_file.specs.Opened.{HasTree, IsTreeFault, is_node_kind, is_tree_kind, HasNodes, IsOpenCause, field_number}
+use Rattle.e57_file.specs.Text.{section_fault, section_text, is_text_kind, is_place_kind, IsPastPlace, JudgesPlace, IsTextRead}
+use Rattle.e57_file.specs.Opened.{IsTreeFault, is_node_kind, HasNodes, IsOpenCause, field_number}
 use Rattle.e57_file.proofs.NodeKinds.{node_kind}
 
 -- ---- the place of the section, judged by the reading of the text

@@ -1,6 +1,7 @@
-//! One opened file: the tree of its XML section.
+//! One opened file: the tree of its XML section, and its blobs.
 #![tactic(auto)]
 
+mod blob;
 mod file;
 mod section;
 mod text;

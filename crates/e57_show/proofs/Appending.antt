@@ -1,12 +1,12 @@
 -- The lines of a tree, item after item.
-use Rattle.std.proofs.Common.{◌≡◌, ℕ, zero, suc, ◌+◌, ◌<◌, ◌≤◌, List, [], ◌∷◌, ◌++◌, length, drop, get_or, Some, slice_get, None, refl, sym, ap, subst, ◌∙◌, arith, append_assoc}
+use Rattle.std.proofs.Common.{◌≡◌, ℕ, ◌+◌, ◌<◌, ◌≤◌, List, [], ◌∷◌, ◌++◌, length, drop, get_or, Some, slice_get, None, refl, sym, ap, subst, ◌∙◌, arith, append_assoc}
 use Rattle.std.specs.List.{AllByRecursion}
 use Rattle.std.proofs.lemmas.Option.{get_or_from_slice_get, slice_get-get_or}
 use Rattle.std.proofs.Math.ListN.{drop_of_length-le}
 use Rattle.std.proofs.lemmas.List.{append-nil}
 use Rattle.e57_elements.specs.Tree.{Element, preorder}
 use Rattle.e57_layout.specs.declared.field.Field.{Field}
-use Rattle.e57_nodes.specs.Shape.{Shape, shape_of, node_count}
+use Rattle.e57_nodes.specs.Shape.{Shape, shape_of}
 use Rattle.e57_nodes.specs.Typed.{typed_fault}
 use Rattle.e57_nodes.specs.Places.{places_in}
 use Rattle.e57_nodes.specs.Items.{StatedItem, stated_cloud, stated_blob, stated_items}
@@ -20,8 +20,8 @@ use Rattle.e57_tree.specs.declared.items.Item.TheVariants as item
 use Rattle.e57_tree.specs.Held.{clouds_among, blobs_among, items_among, fields_among, clouds_of, blobs_of, items_of, cloud_fields}
 use Rattle.e57_tree.specs.Laws.Flat.{node_count-shape_of}
 use Rattle.e57_show.specs.Listing.{cloud_line, blob_line, field_lines, item_lines, list_text}
-use Rattle.e57_show.specs.Items.{no_cloud, no_blob, cloud_in, blob_in, fields_in, IsCloud, IsBlob, IsItem, cloud_text, blob_text, item_text}
-use Rattle.e57_show.proofs.Lists.{StandsAt, stands_at, first_left, none_left}
+use Rattle.e57_show.specs.Items.{no_cloud, no_blob, cloud_in, blob_in, fields_in, IsItem, cloud_text, blob_text, item_text}
+use Rattle.e57_show.proofs.Lists.{stands_at, first_left, none_left}
 
 -- What the lines stand for: the first i items of the tree. These are the rest, with their places, and so many clouds and blobs stand before.
 pub record IsListing (e : Element) (i : ℕ) (text : List ℕ) : Type 0 where

@@ -1,5 +1,5 @@
 -- What is shown of a file that was read.
-use Rattle.std.proofs.Common.{◌≡◌, ℕ, List, [], ◌∷◌, ◌++◌, Option, Some, None, inl, inr, sym, ap, subst, ◌∙◌}
+use Rattle.std.proofs.Common.{◌≡◌, ℕ, List, [], ◌∷◌, ◌++◌, Option, Some, None, inl, inr, ap, ◌∙◌}
 use Rattle.e57_base.specs.Source.{SourceView}
 use Rattle.e57_base.specs.Told.{told_map, told_both}
 use Rattle.e57_base.specs.declared.fault.Fault.{Fault}
@@ -42,7 +42,7 @@ shows old nodes bytes text either read spelled whole =
 
 -- ---- the clouds and blobs
 
-no_tree_fault : (file : List ℕ) (nodes : List RawNode) → IsEither → IsOneTree → HasNodes file nodes → HasNoFault list_shown file
+pub no_tree_fault : (file : List ℕ) (nodes : List RawNode) → IsEither → IsOneTree → HasNodes file nodes → HasNoFault list_shown file
 no_tree_fault file nodes either one read found (inl early) = no_text_fault file read.tree either read.has found early
 no_tree_fault file nodes either one read found (inr (tree, has, late)) =
     let same = one (section_text file) tree read.tree has.spells read.has.spells in

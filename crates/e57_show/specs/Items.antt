@@ -1,5 +1,5 @@
 -- The lines of one cloud or blob of a tree, by its number.
-use Rattle.std.specs.Prelude.{◌≡◌, ℕ, ◌<◌, List, [], ◌++◌, length, slice_index_or}
+use Rattle.std.specs.Prelude.{ℕ, ◌<◌, List, [], ◌++◌, length, slice_index_or}
 use Rattle.e57_elements.specs.Tree.{Element, preorder}
 use Rattle.e57_layout.specs.declared.field.Field.{Field}
 use Rattle.e57_nodes.specs.Shape.{shape_of}

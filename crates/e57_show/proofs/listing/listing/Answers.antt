@@ -1,4 +1,4 @@
-use Rattle.std.proofs.Common.{◌≡◌, ◌≤◌, List, ℕ, length, sym, subst, arith}
+use Rattle.std.proofs.Common.{List, ℕ, sym, subst, arith}
 use Rattle.e57_tree.specs.declared.items.Item.TheVariants as item
 use Rattle.e57_show.proofs.Appending.{IsListing, begins, next_item, ends, item_there, none_after}
 use Rattle.e57_show.proofs.listing.listing.Goals as goal

@@ -1,4 +1,4 @@
-use Rattle.std.proofs.Common.{◌≡◌, ◌∙◌, sym, ap}
+use Rattle.std.proofs.Common.{◌∙◌, sym, ap}
 use Rattle.e57_tree.specs.Held.{cloud_fields}
 use Rattle.e57_file.specs.Opened.{field_number}
 use Rattle.e57_file.proofs.Opening.{number_of}

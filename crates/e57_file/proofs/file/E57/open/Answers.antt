@@ -1,4 +1,3 @@
-use Rattle.std.proofs.Common.{◌≡◌, List, None, Some}
 use Rattle.std.specs.Prelude.{IfSome}
 use Rattle.e57_base.specs.Fault.{text_as_open}
 use Rattle.e57_file.specs.Opened.{HasNodes, IsOpenCause}
