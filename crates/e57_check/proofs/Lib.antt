@@ -1,0 +1,12 @@
+pub mod Starting
+pub mod Passed
+pub mod Stepping
+pub mod Paged
+pub mod Judged
+pub mod Rows
+pub mod Openings
+pub mod Blocks
+pub mod Bodies
+pub mod Things
+pub mod Walking
+pub mod Verdicts

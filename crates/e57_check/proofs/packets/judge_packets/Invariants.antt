@@ -1,0 +1,13 @@
+use Rattle.std.proofs.Common.{◌≡◌, ◌-◌, ◌/◌}
+use Rattle.e57_base.specs.Source.{page_length}
+use Rattle.e57_check.proofs.Passed.{Passing}
+use Rattle.e57_check.proofs.packets.judge_packets.Given as goal
+
+abbrev pub invariant-loop-passed : goal.invariant-loop-passed
+invariant-loop-passed g l =
+    Passing (l.fn.pages.length / page_length) (g.S.Source.view l.fn.pages.source) l.section l.starts l.passed (g.S.Source.view l.pages.source)
+    × (l.pages.length ≡ l.fn.pages.length)
+    × (l.pages.header ≡ l.fn.pages.header)
+
+abbrev pub decreases-loop-passed : goal.decreases-loop-passed
+decreases-loop-passed g l = l.section.end - l.passed.taken

@@ -1,0 +1,8 @@
+pub mod Asking
+pub mod AskingLaws
+pub mod Starts
+pub mod Sorts
+pub mod Passing
+pub mod Judging
+pub mod Clouds
+pub mod Checking
