@@ -2,20 +2,28 @@
 
 ghost use Rattle.std.specs.Prelude.{None};
 
+use crate::gathered::Gathered;
 use e57_base::{Failed, Target};
+use std::alloc::Global;
 use std::fs;
 use std::fs::{File, OpenFile};
-use std::os::unix::fs::FileExt;
 use std::rt::Files;
 
 // No file of the disk has as many pages.
 const MAX_PAGES: u64 = 1 << 50;
 
 /// A new file of the disk. It tells nothing of what it holds, nor of its name.
+///
+/// Pages that follow one another are gathered in memory, up to 64, and written by one call of the system: when the next
+/// page doesn't follow them or has no room, and at the end. So what was put is the file with the gathered pages laid over
+/// it, and after `finish` the file alone. Where a write fails, the call that made it fails, and the gathered pages stay
+/// gathered. A page that doesn't follow is written after all that were put before it. Pages that are still gathered when
+/// the value is dropped are not written.
 #[derive(Drop)]
 pub struct DiskTarget<'a, R: Files<File = File>> {
     files: &'a R,
     file: Option<File>,
+    gathered: Gathered,
     pages: Option<u64>,
     finished: bool,
     created: u64,
@@ -23,10 +31,12 @@ pub struct DiskTarget<'a, R: Files<File = File>> {
 }
 
 impl<'a, R: Files<File = File>> DiskTarget<'a, R> {
-    pub fn new(files: &'a R) -> Self {
+    /// No file is created. Memory is taken for 64 gathered pages; without it each page is written by itself.
+    pub fn new(alloc: Global, files: &'a R) -> Self {
         DiskTarget {
             files,
             file: None,
+            gathered: Gathered::new(alloc),
             pages: None,
             finished: false,
             created: 0,
@@ -41,6 +51,7 @@ impl<R: Files<File = File>> Target for DiskTarget<'_, R> {
     fn create(&mut self, name: &str) -> Result<(), Failed> {
         self.finished = false;
         self.created = self.created.saturating_add(1);
+        self.gathered.forget();
         match fs::create(self.files, name) {
             Ok(file) => {
                 self.file = Some(file);
@@ -59,7 +70,7 @@ impl<R: Files<File = File>> Target for DiskTarget<'_, R> {
     fn put_page(&mut self, n: u64, page: &[u8; 1024]) -> Result<(), Failed> {
         self.finished = false;
         let is_written = match &self.file {
-            Some(file) => n < MAX_PAGES && file.write_all_at(page, 1024 * n).is_ok(),
+            Some(file) => n < MAX_PAGES && self.gathered.put(file, n, page),
             None => false,
         };
         if !is_written {
@@ -74,7 +85,7 @@ impl<R: Files<File = File>> Target for DiskTarget<'_, R> {
 
     fn finish(&mut self) -> Result<(), Failed> {
         let is_kept = match &self.file {
-            Some(file) => file.sync_all().is_ok(),
+            Some(file) => self.gathered.write(file) && file.sync_all().is_ok(),
             None => false,
         };
         self.finished = is_kept;

@@ -3,6 +3,7 @@
 
 mod disk_source;
 mod disk_target;
+mod gathered;
 mod read_ahead;
 mod std_sink;
 #[cfg(test)]
@@ -44,7 +45,7 @@ fn answer<O: Sink, E: Sink>(
         }
     };
     let source = DiskSource::new(rt.alloc(), rt);
-    let target = DiskTarget::new(rt);
+    let target = DiskTarget::new(rt.alloc(), rt);
     let (status, _, _) = run(rt.alloc(), &words, source, target, out, err);
     ExitCode::from(status.code())
 }

@@ -81,7 +81,7 @@ fn the_rest_of_a_file_of_the_disk_is_read(rt: HostRuntime) -> Result<(), Fail> {
 
 #[test]
 fn a_file_of_the_disk_is_written_by_pages(rt: HostRuntime) -> Result<(), Fail> {
-    let mut target = DiskTarget::new(&rt);
+    let mut target = DiskTarget::new(rt.alloc(), &rt);
     assert!(rt; target.create("no/such/folder").is_err());
     // What a longer file of this name held is gone.
     write_pages(&rt, "new", 9)?;

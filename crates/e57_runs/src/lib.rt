@@ -3,6 +3,8 @@
 #![tactic(auto)]
 
 #[cfg(test)]
+mod blobs;
+#[cfg(test)]
 mod commands;
 #[cfg(test)]
 mod faults;
@@ -12,3 +14,5 @@ mod files;
 mod listings;
 #[cfg(test)]
 mod runs;
+#[cfg(test)]
+mod verdicts;

@@ -15,11 +15,11 @@ use Rattle.e57_tool.specs.Run.{CallsSource, OneFile, IsDone, Keeps}
 use Rattle.e57_tool.specs.FileAnswer.{FileAnswer, PageRule, AnswersFile, ReadsFile, HasSoundFile, reading}
 
 -- what is held is the stock's file
-held_file : (stock : Option Stock) (name file : List ℕ) (held : Option (List ℕ)) → option_and_then (λ files. get files name) stock ≡ Some file → IfSome stock (λ files. held ≡ get files name) → held ≡ Some file
+pub held_file : (stock : Option Stock) (name file : List ℕ) (held : Option (List ℕ)) → option_and_then (λ files. get files name) stock ≡ Some file → IfSome stock (λ files. held ≡ get files name) → held ≡ Some file
 held_file None name file held has is = absurd cc
 held_file (Some files) name file held has is = is ∙ has
 
-held_is : (P : List ℕ → Type 0) (held : Option (List ℕ)) (file : List ℕ) → held ≡ Some file → IfSome held P → P file
+pub held_is : (P : List ℕ → Type 0) (held : Option (List ℕ)) (file : List ℕ) → held ≡ Some file → IfSome held P → P file
 held_is P held file is h = subst (λ (x : Option (List ℕ)). IfSome x P) is h
 
 -- no file is sound and has a fault

@@ -3,3 +3,7 @@ pub mod Keeping
 pub mod Reading
 pub mod Scanning
 pub mod Showing
+pub mod Streaming
+pub mod BlobAsked
+pub mod Numbers
+mod Checking

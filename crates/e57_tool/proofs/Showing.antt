@@ -36,7 +36,7 @@ pub is_either : (shown : Shown) (file : List ℕ) (found : Fault) → HasNoShowF
 is_either shown file found sound fault = sound found fault
 
 -- so few pages that no place was judged
-few : (pages : List ℕ) (source : SourceView) → length pages ≤ 1 → IfSome source.held (λ file. IfSome (xml_span_fault (header_of file) (logical_size file)) (λ _. length pages ≤ 1))
+pub few : (pages : List ℕ) (source : SourceView) → length pages ≤ 1 → IfSome source.held (λ file. IfSome (xml_span_fault (header_of file) (logical_size file)) (λ _. length pages ≤ 1))
 few pages source within = told_always (λ file. IfSome (xml_span_fault (header_of file) (logical_size file)) (λ _. length pages ≤ 1)) source.held (λ file. told_always (λ _. length pages ≤ 1) (xml_span_fault (header_of file) (logical_size file)) (λ _. within))
 
 nothing_asked : (old new : SourceView) → Asks old.asked [] new.asked → AsksForText old new
@@ -89,17 +89,17 @@ unopened shown name old new out (read.Refused found) refused =
 unopened shown name old new out read.Source lost = record { pages = unopened_asked old new lost.asked; answers = record { opens = lost.opens; cause = lost.cause; nothing = refl } }
 
 -- the place of the section, by the numbers that were read and by the file
-place_told : (mid : SourceView) (size : ℕ) (header : Header) (outcome : Option Fault) → IfSome mid.held (λ file. length file ≡ size) → IfSome mid.held (λ file. header ≡ header_of file) → xml_span_fault header (size / 1024 * 1020) ≡ outcome → IfSome mid.held (λ file. xml_span_fault (header_of file) (logical_size file) ≡ outcome)
+pub place_told : (mid : SourceView) (size : ℕ) (header : Header) (outcome : Option Fault) → IfSome mid.held (λ file. length file ≡ size) → IfSome mid.held (λ file. header ≡ header_of file) → xml_span_fault header (size / 1024 * 1020) ≡ outcome → IfSome mid.held (λ file. xml_span_fault (header_of file) (logical_size file) ≡ outcome)
 place_told mid size header outcome long read is =
     told_both (λ file. length file ≡ size) (λ file. header ≡ header_of file) (λ file. xml_span_fault (header_of file) (logical_size file) ≡ outcome) mid.held
     (λ file same head. let by_file : xml_span_fault (header_of file) (logical_size file) ≡ xml_span_fault header (size / 1024 * 1020) = rw (← head, same) refl in by_file ∙ is) long read
 
-no_place_fault : (found : Option Fault) (P : Type 0) → found ≡ None → IfSome found (λ _. P)
+pub no_place_fault : (found : Option Fault) (P : Type 0) → found ≡ None → IfSome found (λ _. P)
 no_place_fault None P is = tt
 no_place_fault (Some found) P is = absurd cc
 
 -- page 0 is kept, so it isn't asked for again
-kept_first : (kept : List ℕ) (low k : ℕ) → KeepsFirst kept → low ≤ k → k < max 1 low → is_kept kept k ≡ true
+pub kept_first : (kept : List ℕ) (low k : ℕ) → KeepsFirst kept → low ≤ k → k < max 1 low → is_kept kept k ≡ true
 kept_first kept low k keeps from below = let first : k ≡ 0 = omega arith in subst (λ (n : ℕ). is_kept kept n ≡ true) (sym first) (keeps 0)
 
 -- page 0, and then pages of the section
@@ -139,7 +139,7 @@ not_both : {T : Type 0} (result : Result T RunFault) (found : Fault) → result 
 not_both result found memory refused = cc
 
 -- memory ran out, so the section has its place
-placed : {S T : Type 0} (before after : Reading S) (out out' : SinkView) (result : Result T RunFault) → result ≡ Err Memory → JudgesPlaceFirst before out result after out' → xml_span_fault before.header (before.length / 1024 * 1020) ≡ None
+pub placed : {S T : Type 0} (before after : Reading S) (out out' : SinkView) (result : Result T RunFault) → result ≡ Err Memory → JudgesPlaceFirst before out result after out' → xml_span_fault before.header (before.length / 1024 * 1020) ≡ None
 placed before after out out' result is judged = elim (xml_span_fault before.header (before.length / 1024 * 1020)) as (λ (o : Option Fault). MatchOption o (IfErr result IsPastPlace) (λ found. (result ≡ Err (Refused found)) × (after ≡ before) × (out' ≡ out)) → o ≡ None) [
   | None ↦ λ past. refl
   | Some found ↦ λ refused. absurd (not_both result found is refused.0)

@@ -1,6 +1,7 @@
 -- The words of a command line, read one after another.
-use Rattle.std.specs.Prelude.{ℕ, ◌+◌, Bool, not, if◌then◌else◌, List, [], ◌∷◌, map, drop, Option, Some, None, Result, Ok, Err, codes, nat_eq}
-use Rattle.std.specs.List.{starts_with}
+use Rattle.std.specs.Prelude.{ℕ, ◌+◌, ◌^◌, Bool, ◌&&◌, not, nat_lt, nat_le, if◌then◌else◌, List, [], ◌∷◌, length, map, drop, Option, Some, None, Result, Ok, Err, codes, nat_eq}
+use Rattle.std.specs.List.{list_all, starts_with}
+use Rattle.std.specs.Str.Parse.{digits_value}
 use Rattle.std.specs.String.{string_bytes}
 use Rattle.e57_tool.specs.declared.cursor.Cursor.{Cursor}
 
@@ -27,6 +28,30 @@ next_place unread = placed unread.at unread.words where
   placed : ℕ → List (List ℕ) → Result (List ℕ × Unread) ℕ
   placed at [] = Err at
   placed at (word ∷ words) = if is_place word then Ok (word, record { at = at + 1; words = words }) else Err at
+
+-- the most digits of a number
+abbrev pub most_digits : ℕ
+most_digits = 20
+
+-- a decimal digit
+abbrev pub is_digit : ℕ → Bool
+is_digit b = nat_le 48 b && nat_le b 57
+
+-- the number that a word of 1 to 20 decimal digits writes, if it is below 2 ^ 64
+unfoldable pub number_of : List ℕ → Option ℕ
+number_of word =
+    if nat_lt 0 (length word) && (nat_le (length word) most_digits && (list_all is_digit word && nat_lt (digits_value 10 word) (2 ^ 64))) then Some (digits_value 10 word) else None
+
+-- the next word, which is a number, and the words behind it; or the number of the word at fault
+abbrev pub next_number : Unread → Result (ℕ × Unread) ℕ
+next_number unread = counted (next_place unread) where
+  numbered : Option ℕ → Unread → Result (ℕ × Unread) ℕ
+  numbered (Some n) rest = Ok (n, rest)
+  numbered None rest = Err unread.at
+
+  counted : Result (List ℕ × Unread) ℕ → Result (ℕ × Unread) ℕ
+  counted (Ok (word, rest)) = numbered (number_of word) rest
+  counted (Err at) = Err at
 
 -- the number of the next word, where one is left
 abbrev pub left_over : Unread → Option ℕ

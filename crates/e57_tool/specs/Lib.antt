@@ -10,4 +10,7 @@ pub mod FileAnswer
 pub mod Text
 pub mod Pages
 pub mod Show
+pub mod InPieces
+pub mod Blob
 pub mod Commands
+pub mod Check

@@ -9,6 +9,10 @@ use Rattle.e57_base.specs.declared.fault.Fault.{Fault}
 abbrev pub pages_line : ℕ → ℕ → ℕ → List ℕ
 pages_line count place length = codes "pages " ++ decimal count ++ codes " xml " ++ decimal place ++ codes " " ++ decimal length ++ codes "\n"
 
+-- `accepted CLOUDS BLOBS RECORDS`
+abbrev pub accepted_line : ℕ → ℕ → ℕ → List ℕ
+accepted_line clouds blobs records = codes "accepted " ++ decimal clouds ++ codes " " ++ decimal blobs ++ codes " " ++ decimal records ++ codes "\n"
+
 -- `KIND A B`: a fault
 abbrev pub fault_words : Fault → List ℕ
 fault_words found = kind_name found.kind ++ codes " " ++ decimal found.a ++ codes " " ++ decimal found.b ++ codes "\n"

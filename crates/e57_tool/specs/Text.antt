@@ -14,6 +14,8 @@ help_text =
     codes "e57 pages FILE   test the checksums of all pages\n"
     ++ codes "e57 info FILE    show the element tree\n"
     ++ codes "e57 list FILE    list the clouds with their fields, and the blobs\n"
+    ++ codes "e57 check FILE   judge the whole file\n"
+    ++ codes "e57 blob FILE K  write the bytes of blob K\n"
     ++ codes "e57 --help       show this text\n"
     ++ codes "e57 --version    show the version\n"
     ++ codes "status 0   done\n"

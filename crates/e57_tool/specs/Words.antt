@@ -1,7 +1,7 @@
 -- What the words of a command line ask for.
 use Rattle.std.specs.Prelude.{ℕ, if◌then◌else◌, List, [], ◌∷◌, Result, Ok, Err, codes}
 use Rattle.std.specs.Str.{bytes_eq}
-use Rattle.e57_tool.specs.Cursor.{Unread, next_place, at_end}
+use Rattle.e57_tool.specs.Cursor.{Unread, next_place, next_number, at_end}
 use Rattle.e57_tool.specs.declared.words.Ask.{Ask}
 use Rattle.e57_tool.specs.declared.words.Ask.TheVariants as asked
 
@@ -17,6 +17,10 @@ pub data Command : Type 0 where
   InfoOf : (file : List ℕ) → Command
   -- `list FILE`
   ListOf : (file : List ℕ) → Command
+  -- `check FILE`
+  CheckOf : (file : List ℕ) → Command
+  -- `blob FILE K`
+  BlobOf : (file : List ℕ) → (k : ℕ) → Command
 
 -- the one place behind a command, and no word behind it
 abbrev pub only_place : Unread → Result (List ℕ) ℕ
@@ -30,6 +34,17 @@ abbrev pub with_place : (List ℕ → Command) → Result (List ℕ) ℕ → Res
 with_place command (Ok file) = Ok (command file)
 with_place command (Err at) = Err at
 
+-- a file's name and the number of a blob, and no word behind them
+abbrev pub blob_ask : Unread → Result Command ℕ
+blob_ask unread = of_file (next_place unread) where
+  of_number : List ℕ → Result (ℕ × Unread) ℕ → Result Command ℕ
+  of_number file (Ok (k, rest)) = at_end (BlobOf file k) rest
+  of_number file (Err at) = Err at
+
+  of_file : Result (List ℕ × Unread) ℕ → Result Command ℕ
+  of_file (Ok (file, rest)) = of_number file (next_number rest)
+  of_file (Err at) = Err at
+
 -- what a command with the words behind it asks for, or the number of the first word at fault
 unfoldable pub command_ask : List ℕ → Unread → Result Command ℕ
 command_ask command words =
@@ -38,6 +53,8 @@ command_ask command words =
     else if bytes_eq command (codes "pages") then with_place PagesOf (only_place words)
     else if bytes_eq command (codes "info") then with_place InfoOf (only_place words)
     else if bytes_eq command (codes "list") then with_place ListOf (only_place words)
+    else if bytes_eq command (codes "check") then with_place CheckOf (only_place words)
+    else if bytes_eq command (codes "blob") then blob_ask words
     else Err 0
 
 -- What the words ask for, or the number of the first word at fault. The command is word 0. Where a place is missing, it is
@@ -53,3 +70,5 @@ command_of asked.Version = VersionAsked
 command_of (asked.Pages file) = PagesOf file.now
 command_of (asked.Info file) = InfoOf file.now
 command_of (asked.List file) = ListOf file.now
+command_of (asked.Check file) = CheckOf file.now
+command_of (asked.Blob file k) = BlobOf file.now k

@@ -4,6 +4,8 @@ ghost use Rattle.e57_tool.specs.Run.{Keeps};
 ghost use Rattle.e57_tool.specs.Words.{command_of};
 ghost use Rattle.e57_tool.specs.Commands.{promise_of};
 
+use crate::blob::show_blob;
+use crate::check::check_file;
 use crate::ending::Ending;
 use crate::info::show_info;
 use crate::list::show_list;
@@ -29,5 +31,7 @@ pub fn perform<S: Source, T: Target, O: Sink>(
         Ask::Pages(file) => test_pages(file, source, target, out),
         Ask::Info(file) => show_info(alloc, file, source, target, out),
         Ask::List(file) => show_list(alloc, file, source, target, out),
+        Ask::Check(file) => check_file(alloc, file, source, target, out),
+        Ask::Blob(file, k) => show_blob(alloc, file, k, source, target, out),
     }
 }

@@ -1,7 +1,8 @@
 //! The words of a command line, read one after another.
 
 ghost use Rattle.std.specs.Prelude.{◌≡◌, Some, None, Ok, Err, MatchResult};
-ghost use Rattle.e57_tool.specs.Cursor.{unread, is_place, next_place, left_over};
+ghost use Rattle.std.specs.List.{list_all};
+ghost use Rattle.e57_tool.specs.Cursor.{unread, is_digit, is_place, next_place, number_of, next_number, left_over};
 
 /// The words ask for nothing.
 #[derive(Clone, Copy, Debug, PartialEq, Eq)]
@@ -47,6 +48,23 @@ impl<'a> Cursor<'a> {
         Ok(word)
     }
 
+    /// The next word, which has to be there and to be a number: 1 to 20 decimal digits with a value below 2^64.
+    pub fn number(&mut self) -> Result<u64, WordFault>
+        ensures words { self.new.words.now ≡ self.old.words.now }
+        ensures number { MatchResult result
+            (λ n. next_number (unread self.old) ≡ Ok (n, unread self.new))
+            (λ fault. next_number (unread self.old) ≡ Err fault.at) }
+    {
+        let fault = WordFault {
+            at: self.next as u64,
+        };
+        let word = self.place()?;
+        let Some(n) = number_of(word) else {
+            return Err(fault);
+        };
+        Ok(n)
+    }
+
     /// No word is left.
     pub fn end(&self) -> Result<(), WordFault>
         ensures { MatchResult result
@@ -60,6 +78,36 @@ impl<'a> Cursor<'a> {
         }
         Ok(())
     }
+}
+
+/// The most digits of a number.
+const MOST_DIGITS: usize = 20;
+
+// The number that a word of decimal digits writes.
+#[tactic(auto, unfolding(crate::specs::Cursor::number_of))]
+fn number_of(word: &str) -> Option<u64>
+    ensures { result ≡ number_of word.now }
+{
+    if word.len() > MOST_DIGITS || !are_digits(word.as_bytes()) {
+        return None;
+    }
+    match word.parse::<u64>() {
+        Ok(n) => Some(n),
+        Err(_) => None,
+    }
+}
+
+// Whether each byte is a decimal digit.
+fn are_digits(bytes: &[u8]) -> bool
+    ensures { result ≡ list_all is_digit bytes.now }
+{
+    bytes.iter().all(|b| is_digit(*b))
+}
+
+fn is_digit(byte: u8) -> bool
+    ensures { result ≡ is_digit byte }
+{
+    byte.is_ascii_digit()
 }
 
 // Whether the word may stand in a place.

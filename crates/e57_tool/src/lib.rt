@@ -1,6 +1,8 @@
 //! The program `e57` as one function over the objects that it is given.
 #![tactic(auto)]
 
+mod blob;
+mod check;
 mod commands;
 mod cursor;
 mod ending;

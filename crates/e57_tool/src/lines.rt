@@ -1,7 +1,7 @@
 //! Lines of text of bounded length.
 
 ghost use Rattle.std.specs.Prelude.{◌≡◌, ◌≤◌, ◌++◌, length};
-ghost use Rattle.e57_tool.specs.Lines.{pages_line, refused_line, second_line, fault_words, ask_numbers, ask_line, words_line};
+ghost use Rattle.e57_tool.specs.Lines.{pages_line, accepted_line, refused_line, second_line, fault_words, ask_numbers, ask_line, words_line};
 
 use arrayvec::ArrayString;
 use e57_base::{AskFault, Fault};
@@ -21,6 +21,21 @@ pub fn pages_line(count: u64, place: u64, length: u64) -> Line
     line.push_str(Buffer::new().format(place));
     line.push_str(" ");
     line.push_str(Buffer::new().format(length));
+    line.push_str("\n");
+    line
+}
+
+/// `accepted CLOUDS BLOBS RECORDS`
+pub fn accepted_line(clouds: u64, blobs: u64, records: u64) -> Line
+    ensures { result.bytes ≡ accepted_line clouds blobs records }
+{
+    let mut line = Line::new();
+    line.push_str("accepted ");
+    line.push_str(Buffer::new().format(clouds));
+    line.push_str(" ");
+    line.push_str(Buffer::new().format(blobs));
+    line.push_str(" ");
+    line.push_str(Buffer::new().format(records));
     line.push_str("\n");
     line
 }

@@ -10,6 +10,8 @@ use e57_base::{RunFault, Sink, Source, Target};
 const HELP: &str = "e57 pages FILE   test the checksums of all pages
 e57 info FILE    show the element tree
 e57 list FILE    list the clouds with their fields, and the blobs
+e57 check FILE   judge the whole file
+e57 blob FILE K  write the bytes of blob K
 e57 --help       show this text
 e57 --version    show the version
 status 0   done

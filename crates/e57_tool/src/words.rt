@@ -2,7 +2,7 @@
 
 ghost use Rattle.std.specs.Prelude.{◌≡◌, Ok, Err, map, string_bytes, MatchResult};
 ghost use Rattle.e57_tool.specs.Cursor.{unread, at_end};
-ghost use Rattle.e57_tool.specs.Words.{ask_of, command_ask, command_of, only_place};
+ghost use Rattle.e57_tool.specs.Words.{ask_of, blob_ask, command_ask, command_of, only_place};
 
 use crate::cursor::{Cursor, WordFault};
 
@@ -19,6 +19,10 @@ pub enum Ask<'a> {
     Info(&'a str),
     /// `list FILE`
     List(&'a str),
+    /// `check FILE`
+    Check(&'a str),
+    /// `blob FILE K`
+    Blob(&'a str, u64),
 }
 
 // The one place behind a command, a file's name, and no word behind it.
@@ -42,6 +46,18 @@ fn no_place<'a>(ask: Ask<'a>, words: Cursor<'a>) -> Result<Ask<'a>, WordFault>
     Ok(ask)
 }
 
+// A file's name and the number of a blob, and no word behind them.
+fn read_blob(mut words: Cursor<'_>) -> Result<Ask<'_>, WordFault>
+    ensures { MatchResult result
+        (λ ask. blob_ask (unread words.entry) ≡ Ok (command_of ask))
+        (λ fault. blob_ask (unread words.entry) ≡ Err fault.at) }
+{
+    let file = words.place()?;
+    let k = words.number()?;
+    words.end()?;
+    Ok(Ask::Blob(file, k))
+}
+
 // What a command with the words behind it asks for.
 #[tactic(auto, unfolding(crate::specs::Words::command_ask))]
 fn read_command<'a>(command: &str, words: Cursor<'a>) -> Result<Ask<'a>, WordFault>
@@ -55,6 +71,8 @@ fn read_command<'a>(command: &str, words: Cursor<'a>) -> Result<Ask<'a>, WordFau
         "pages" => Ok(Ask::Pages(only_place(words)?)),
         "info" => Ok(Ask::Info(only_place(words)?)),
         "list" => Ok(Ask::List(only_place(words)?)),
+        "check" => Ok(Ask::Check(only_place(words)?)),
+        "blob" => read_blob(words),
         _ => Err(WordFault { at: 0 }),
     }
 }
