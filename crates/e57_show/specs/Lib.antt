@@ -6,3 +6,4 @@ pub mod Listing
 pub mod Items
 pub mod Blob
 pub mod BlobPutting
+pub mod Extract

@@ -1,11 +1,15 @@
 //! What the program shows of an opened file.
 #![tactic(auto)]
 
+mod ask;
 mod bytes;
 mod lines;
 mod listing;
+mod rows;
 mod shown;
 
+pub use ask::RowsAsk;
 pub use bytes::blob;
 pub use listing::list;
+pub use rows::extract;
 pub use shown::info;

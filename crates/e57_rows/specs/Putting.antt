@@ -1,0 +1,66 @@
+-- What it is to put the rows of some records of a section.
+use Rattle.std.specs.Prelude.{◌≡◌, ℕ, ◌+◌, ◌<◌, ◌≤◌, true, List, Option, Some, None, IfSome, Contains}
+use Rattle.e57_base.specs.Count.{Rose}
+use Rattle.e57_base.specs.Source.{SourceView}
+use Rattle.e57_base.specs.Sink.{SinkView, Grows, GrowsByFront}
+use Rattle.e57_base.specs.declared.fault.RunFault.{RunFault}
+use Rattle.e57_base.specs.declared.fault.RunFault.TheVariants.{Refused, Source, Out, Memory, Ask}
+use Rattle.e57_layout.specs.declared.field.Fixed.{Fixed}
+use Rattle.e57_layout.specs.declared.section.Section.{Section}
+use Rattle.e57_sections.specs.Cloud.{Leaf}
+use Rattle.e57_sections.specs.Met.{OnItem}
+use Rattle.e57_stream.specs.Asking.{AsksMet}
+use Rattle.e57_column.specs.Finding.{is_column_kind}
+use Rattle.e57_rows.specs.Rows.{section_row, rows_text, rows_fault}
+
+-- the asked fields of some records of a section, one or more: the first of them, and how many
+pub record Slice : Type 0 where
+  pub section : Section
+  pub fixed : Option Fixed
+  pub asked : List (ℕ × Leaf)
+  pub from : ℕ
+  pub count : ℕ
+
+-- the rows of a slice in a file, up to the first record with a fault
+abbrev pub slice_text : Slice → List ℕ → List ℕ
+slice_text a file = rows_text (section_row file a.section a.fixed a.asked) a.from a.count
+
+-- the fault of the first of its records that has one
+abbrev pub slice_fault : Slice → List ℕ → Option Fault
+slice_fault a file = rows_fault (section_row file a.section a.fixed a.asked) a.from a.count
+
+-- page p is one on the way to the item of one of its fields and records
+pub record OnSlice (a : Slice) (file : List ℕ) (p : ℕ) : Type 0 where
+  pub f : ℕ
+  pub leaf : Leaf
+  pub i : ℕ
+  pub asks : Contains a.asked (f, leaf)
+  pub after : a.from ≤ i
+  pub before : i < a.from + a.count
+  pub way : OnItem file a.section a.fixed f leaf i p
+
+-- its rows were put
+abbrev pub PutsText : Slice → Option (List ℕ) → SinkView → SinkView → Type 0
+PutsText a held out out' = (text : List ℕ) × IfSome held (λ file. text ≡ slice_text a file) × Grows out.written text out'.written
+
+-- a prefix of them was
+abbrev pub PutsFront : Slice → Option (List ℕ) → SinkView → SinkView → Type 0
+PutsFront a held out out' = (text : List ℕ) × IfSome held (λ file. text ≡ slice_text a file) × GrowsByFront out.written text out'.written
+
+-- All its rows were put: none of its records has a fault. Only pages on the way to its items were asked for.
+pub record PutsRows (a : Slice) (old new : SourceView) (out out' : SinkView) : Type 0 where
+  pub met : AsksMet (OnSlice a) old new
+  pub sound : IfSome old.held (λ file. slice_fault a file ≡ None)
+  pub wrote : PutsText a old.held out out'
+
+-- why they weren't: the fault of a record, and the rows before it were put; the source or the sink failed; or memory ran out
+abbrev pub IsRowsCause : Slice → SourceView → SourceView → SinkView → SinkView → RunFault → Type 0
+IsRowsCause a old new out out' (Refused found) = (is_column_kind found.kind ≡ true) × IfSome old.held (λ file. slice_fault a file ≡ Some found) × PutsText a old.held out out'
+IsRowsCause a old new out out' Source = Rose old.faults new.faults × PutsFront a old.held out out'
+IsRowsCause a old new out out' Out = Rose out.faults out'.faults × PutsFront a old.held out out'
+IsRowsCause a old new out out' Memory = PutsFront a old.held out out'
+IsRowsCause a old new out out' (Ask why) = ⊥
+
+pub record FailsRows (a : Slice) (old new : SourceView) (out out' : SinkView) (fault : RunFault) : Type 0 where
+  pub met : AsksMet (OnSlice a) old new
+  pub cause : IsRowsCause a old new out out' fault

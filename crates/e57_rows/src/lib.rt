@@ -1,0 +1,9 @@
+//! Records of a cloud as rows of text: items as cells, the row of each record, and the rows of some records put on a sink one
+//! after another (ASTM E2807, compressed vector binary sections).
+#![tactic(auto)]
+
+mod heading;
+mod put;
+
+pub use heading::heading;
+pub use put::put_rows;
