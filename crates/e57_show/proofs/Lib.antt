@@ -4,3 +4,7 @@ pub mod Appending
 pub mod Pieces
 pub mod Putting
 pub mod BlobShown
+pub mod Rowing
+pub mod Records
+pub mod Selecting
+pub mod RowsShown

@@ -113,11 +113,11 @@ few-before file s (suc at) n within none = either (span_fault file s n) refl whe
 
 -- ---- what grows
 
-grows-on : (a b c : Option (List ℕ)) (first next : List ℕ) → Grows a first b → Grows b next c → Grows a (first ++ next) c
+pub grows-on : (a b c : Option (List ℕ)) (first next : List ℕ) → Grows a first b → Grows b next c → Grows a (first ++ next) c
 grows-on None b c first next f g = rw f at g
 grows-on (Some bytes) b c first next f g = g ∙ ap (λ (o : Option (List ℕ)). option_map (λ x. x ++ next) o) f ∙ ap (λ (x : List ℕ). Some x) (append_assoc bytes first next)
 
-front-on : (a b c : Option (List ℕ)) (first next : List ℕ) → Grows a first b → GrowsByFront b next c → GrowsByFront a (first ++ next) c
+pub front-on : (a b c : Option (List ℕ)) (first next : List ℕ) → Grows a first b → GrowsByFront b next c → GrowsByFront a (first ++ next) c
 front-on a b c first next f (k, within, g) = (
   length first + k,
   rw length-append (omega (arith, within)),

@@ -62,18 +62,21 @@ pub record Selection : Type 0 where
   pub from : ℕ
   pub count : ℕ
 
--- the number of the field with the first of these names, before those of the others; or the number of the first name that no
--- field has, j being that of the first one
+-- a field's number before those of others
+abbrev pub with_number : ℕ → Result (List ℕ) ℕ → Result (List ℕ) ℕ
+with_number f (Ok others) = Ok (f ∷ others)
+with_number f (Err at) = Err at
+
+-- the number of the field with name j before those of the fields with the names behind it; or j if no field has it
+abbrev pub by_number : ℕ → Option ℕ → Result (List ℕ) ℕ → Result (List ℕ) ℕ
+by_number j None others = Err j
+by_number j (Some f) others = with_number f others
+
+-- The numbers of the fields with these names, of which the first one is name j of the list; or the number of the first name that
+-- no field has.
 unfoldable pub numbers_from : List Field → ℕ → List (List ℕ) → Result (List ℕ) ℕ
 numbers_from fields j [] = Ok []
-numbers_from fields j (name ∷ names) = numbered (field_number name fields) (numbers_from fields (j + 1) names) where
-  behind : ℕ → Result (List ℕ) ℕ → Result (List ℕ) ℕ
-  behind f (Ok others) = Ok (f ∷ others)
-  behind f (Err at) = Err at
-
-  numbered : Option ℕ → Result (List ℕ) ℕ → Result (List ℕ) ℕ
-  numbered None others = Err j
-  numbered (Some f) others = behind f others
+numbers_from fields j (name ∷ names) = by_number j (field_number name fields) (numbers_from fields (j + 1) names)
 
 -- the numbers of the asked fields, or the number of the first name that no field has
 abbrev pub numbers_of : List Field → Option (List (List ℕ)) → Result (List ℕ) ℕ
@@ -125,9 +128,13 @@ cloud_row file c asked i = row_of (λ f leaf. path_item file c f leaf i) asked
 abbrev pub selected_row : List ℕ → Selection → ℕ → Result (List ℕ) Fault
 selected_row file s i = cloud_row file (stated s) (asked_of s.fields s.numbers) i
 
--- the row of the asked fields' paths, and then the rows of the asked records, up to the first one with a fault
+-- the rows of the asked records, up to the first one with a fault
+abbrev pub selected_rows : List ℕ → Selection → List ℕ
+selected_rows file s = rows_text (selected_row file s) s.from s.count
+
+-- the row of the asked fields' paths, and then these rows
 abbrev pub selected_text : List ℕ → Selection → List ℕ
-selected_text file s = heading_text s.fields s.numbers ++ rows_text (selected_row file s) s.from s.count
+selected_text file s = heading_text s.fields s.numbers ++ selected_rows file s
 
 -- the fault of the first asked record that has one
 abbrev pub selected_fault : List ℕ → Selection → Option Fault
@@ -149,6 +156,10 @@ is_rows_ask asked (ask.Field j have) = is_listed asked.names where
 is_rows_ask asked (ask.Range end have) = (end == asked_end asked.from asked.count) && nat_lt have end
 is_rows_ask asked _ = false
 
+-- a kind of fault that stops the rows: of the cloud's section, or on the way to an item
+abbrev pub is_rows_kind : Kind → Bool
+is_rows_kind kind = is_section_kind kind || is_column_kind kind
+
 -- the first fault before the rows; or the heading and the rows up to the first record with a fault
 abbrev pub rows_streamed : Asked → Streamed
 rows_streamed asked =
@@ -158,7 +169,7 @@ rows_streamed asked =
       is_short = LacksAsked asked;
       may_refuse = is_rows_ask asked;
       is_late = IsRowsFault asked;
-      may_stop = λ kind. is_section_kind kind || is_column_kind kind;
+      may_stop = is_rows_kind;
       is_output = IsRowsOutput asked;
       runs_out_midway = true;
     }

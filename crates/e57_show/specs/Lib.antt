@@ -7,3 +7,4 @@ pub mod Items
 pub mod Blob
 pub mod BlobPutting
 pub mod Extract
+pub mod Extracting

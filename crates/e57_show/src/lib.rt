@@ -6,6 +6,7 @@ mod bytes;
 mod lines;
 mod listing;
 mod rows;
+mod select;
 mod shown;
 
 pub use ask::RowsAsk;

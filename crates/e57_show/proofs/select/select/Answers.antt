@@ -1,0 +1,40 @@
+use Rattle.std.proofs.Common.{◌≡◌, ◌∙◌, ◌<◌, ◌≤◌, List, ℕ, length, slice_index_or, sym, subst, refl, arith}
+use Rattle.std.specs.Prelude.{MatchResult}
+use Rattle.e57_elements.specs.Tree.{Element, preorder}
+use Rattle.e57_base.specs.declared.fault.RunFault.{RunFault}
+use Rattle.e57_show.specs.Extract.{asked_by}
+use Rattle.e57_show.specs.Extracting.{IsSelected, IsUnselected}
+use Rattle.e57_show.proofs.Putting.{by_error}
+use Rattle.e57_show.proofs.Selecting.{counted, cloud-lacking, is-there, field-lacking, range-lacking, is-selected}
+use Rattle.e57_show.proofs.select.select.Goals as goal
+
+pub returns-then-asked-have : goal.returns-then-asked-have
+returns-then-asked-have c =
+    let past = c.if-asked-have.true in
+    cloud-lacking (asked_by c.args.ask.now) c.args.file.now c.clouds-clouds.result.now (λ e same. c.clouds-clouds.ensures e (c.tree-2.ensures ∙ same)) (omega (arith, past))
+
+pub returns-in_err-numbers : goal.returns-in_err-numbers
+returns-in_err-numbers c =
+    let below = c.if-asked-have.false in
+    let asked = asked_by c.args.ask.now in
+    let there = is-there c.args.file.now c.args.ask.now.cloud (record { node = 0; place = 0; count = 0 }) c.clouds-clouds.result.now c.fields.result.now (λ e same. c.clouds-clouds.ensures e (c.tree-2.ensures ∙ same)) (λ e same. c.fields.ensures.fields e (c.tree-3.ensures ∙ same)) (omega (arith, below)) in
+    by_error (λ s. IsSelected c.args.file.now asked s) (λ fault. IsUnselected c.args.file.now asked fault) c.in_err-numbers.field-0.0 c.from_residual.result c.from_residual.ensures.1
+    (field-lacking asked c.args.file.now _ c.fields.result.now c.in_err-numbers.field-0.0 there c.in_err-numbers.ensures)
+
+pub returns-then-cloud-end : goal.returns-then-cloud-end
+returns-then-cloud-end c =
+    let below = c.if-asked-have.false in
+    let past = c.if-cloud-end.true in
+    let asked = asked_by c.args.ask.now in
+    let there = is-there c.args.file.now c.args.ask.now.cloud (record { node = 0; place = 0; count = 0 }) c.clouds-clouds.result.now c.fields.result.now (λ e same. c.clouds-clouds.ensures e (c.tree-2.ensures ∙ same)) (λ e same. c.fields.ensures.fields e (c.tree-3.ensures ∙ same)) (omega (arith, below)) in
+    range-lacking asked c.args.file.now _ c.fields.result.now c.in_ok-numbers.numbers.items c.past_asked-end.result there c.in_ok-numbers.ensures c.past_asked-end.ensures (omega (arith, past))
+
+pub returns : goal.returns
+returns c =
+    let below = c.if-asked-have.false in
+    let within = c.if-cloud-end.false in
+    let ends = c.past_asked-end.ensures in
+    let asked = asked_by c.args.ask.now in
+    let there = is-there c.args.file.now c.args.ask.now.cloud (record { node = 0; place = 0; count = 0 }) c.clouds-clouds.result.now c.fields.result.now (λ e same. c.clouds-clouds.ensures e (c.tree-2.ensures ∙ same)) (λ e same. c.fields.ensures.fields e (c.tree-3.ensures ∙ same)) (omega (arith, below)) in
+    is-selected asked c.args.file.now _ c.fields.result.now c.args.ask.now.fields (subst (λ nodes. Rattle.e57_elements.specs.Lawful.AreNodes nodes) c.tree.ensures c.raw-raw.ensures.nodes) (λ e same. c.raw-raw.ensures.typed e (c.tree.ensures ∙ same)) there
+    refl refl (counted _ _ _ c.args.ask.now.count c.unwrap_or.ensures) refl (omega (arith, within, ends)) c.fields.ensures.valid.some c.in_ok-numbers.ensures
