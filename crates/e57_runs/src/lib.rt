@@ -13,6 +13,8 @@ mod files;
 #[cfg(test)]
 mod listings;
 #[cfg(test)]
+mod rows;
+#[cfg(test)]
 mod runs;
 #[cfg(test)]
 mod verdicts;

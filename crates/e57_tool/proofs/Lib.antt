@@ -5,5 +5,8 @@ pub mod Scanning
 pub mod Showing
 pub mod Streaming
 pub mod BlobAsked
+pub mod RowsAsked
 pub mod Numbers
+pub mod Names
+pub mod OptionWords
 mod Checking

@@ -14,7 +14,7 @@ drop_next words n word is =
     rw (add-one n) (cut ∙ ap (λ w. w ∷ drop (suc n) words) (get_or_from_slice_get words n word word is))
 
 -- the same of the texts of these items
-text_at : {A : Type 0} (text : A → List ℕ) (items : List A) (n : ℕ) (item : A) (word : List ℕ) → n < length items → item ≡ get_or items n item → word ≡ text item → drop n (map text items) ≡ word ∷ drop (n + 1) (map text items)
+pub text_at : {A : Type 0} (text : A → List ℕ) (items : List A) (n : ℕ) (item : A) (word : List ℕ) → n < length items → item ≡ get_or items n item → word ≡ text item → drop n (map text items) ≡ word ∷ drop (n + 1) (map text items)
 text_at text items n item word below is said =
     let here : slice_get items n ≡ Some item = slice_get_read items (length items) n item refl below is in
     drop_next (map text items) n word (slice_get-map text items n ∙ (ap (option_map text) here ∙ ap Some (sym said)))

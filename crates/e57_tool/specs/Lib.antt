@@ -1,4 +1,5 @@
 pub mod Cursor
+pub mod Options
 pub mod Words
 pub mod Lines
 pub mod Status
@@ -12,5 +13,6 @@ pub mod Pages
 pub mod Show
 pub mod InPieces
 pub mod Blob
+pub mod Extract
 pub mod Commands
 pub mod Check

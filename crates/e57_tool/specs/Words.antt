@@ -1,7 +1,9 @@
 -- What the words of a command line ask for.
 use Rattle.std.specs.Prelude.{ℕ, if◌then◌else◌, List, [], ◌∷◌, Result, Ok, Err, codes}
 use Rattle.std.specs.Str.{bytes_eq}
+use Rattle.e57_show.specs.Extract.{Asked, IsLimited, asked_by}
 use Rattle.e57_tool.specs.Cursor.{Unread, next_place, next_number, at_end}
+use Rattle.e57_tool.specs.Options.{RowsGiven, nothing_given, with_options, rows_options, rows_asked}
 use Rattle.e57_tool.specs.declared.words.Ask.{Ask}
 use Rattle.e57_tool.specs.declared.words.Ask.TheVariants as asked
 
@@ -21,6 +23,8 @@ pub data Command : Type 0 where
   CheckOf : (file : List ℕ) → Command
   -- `blob FILE K`
   BlobOf : (file : List ℕ) → (k : ℕ) → Command
+  -- `extract FILE CLOUD`, and options
+  ExtractOf : (file : List ℕ) → (what : Asked) → Command
 
 -- the one place behind a command, and no word behind it
 abbrev pub only_place : Unread → Result (List ℕ) ℕ
@@ -45,6 +49,21 @@ blob_ask unread = of_file (next_place unread) where
   of_file (Ok (file, rest)) = of_number file (next_number rest)
   of_file (Err at) = Err at
 
+-- a file's name, the number of a cloud, and options
+abbrev pub extract_ask : Unread → Result Command ℕ
+extract_ask unread = of_file (next_place unread) where
+  of_options : List ℕ → ℕ → Result RowsGiven ℕ → Result Command ℕ
+  of_options file cloud (Ok given) = Ok (ExtractOf file (rows_asked cloud given))
+  of_options file cloud (Err at) = Err at
+
+  of_cloud : List ℕ → Result (ℕ × Unread) ℕ → Result Command ℕ
+  of_cloud file (Ok (cloud, rest)) = of_options file cloud (with_options rows_options rest.at rest.words nothing_given)
+  of_cloud file (Err at) = Err at
+
+  of_file : Result (List ℕ × Unread) ℕ → Result Command ℕ
+  of_file (Ok (file, rest)) = of_cloud file (next_number rest)
+  of_file (Err at) = Err at
+
 -- what a command with the words behind it asks for, or the number of the first word at fault
 unfoldable pub command_ask : List ℕ → Unread → Result Command ℕ
 command_ask command words =
@@ -55,6 +74,7 @@ command_ask command words =
     else if bytes_eq command (codes "list") then with_place ListOf (only_place words)
     else if bytes_eq command (codes "check") then with_place CheckOf (only_place words)
     else if bytes_eq command (codes "blob") then blob_ask words
+    else if bytes_eq command (codes "extract") then extract_ask words
     else Err 0
 
 -- What the words ask for, or the number of the first word at fault. The command is word 0. Where a place is missing, it is
@@ -72,3 +92,9 @@ command_of (asked.Info file) = InfoOf file.now
 command_of (asked.List file) = ListOf file.now
 command_of (asked.Check file) = CheckOf file.now
 command_of (asked.Blob file k) = BlobOf file.now k
+command_of (asked.Extract file given) = ExtractOf file.now (asked_by given)
+
+-- no number of records is above the most that may be asked for
+abbrev pub IsLimitedAsk : Ask → Type 0
+IsLimitedAsk (asked.Extract file given) = IsLimited given
+IsLimitedAsk _ = Unit {0}

@@ -1,12 +1,13 @@
 //! Each command by its words.
 
 ghost use Rattle.e57_tool.specs.Run.{Keeps};
-ghost use Rattle.e57_tool.specs.Words.{command_of};
+ghost use Rattle.e57_tool.specs.Words.{IsLimitedAsk, command_of};
 ghost use Rattle.e57_tool.specs.Commands.{promise_of};
 
 use crate::blob::show_blob;
 use crate::check::check_file;
 use crate::ending::Ending;
+use crate::extract::show_rows;
 use crate::info::show_info;
 use crate::list::show_list;
 use crate::pages::test_pages;
@@ -23,6 +24,7 @@ pub fn perform<S: Source, T: Target, O: Sink>(
     target: T,
     out: &mut O,
 ) -> (S, T, Ending)
+    requires { IsLimitedAsk ask }
     ensures { Keeps S.view T.view O.view (promise_of (command_of ask.entry)) source target out.old result out.new }
 {
     match ask {
@@ -33,5 +35,6 @@ pub fn perform<S: Source, T: Target, O: Sink>(
         Ask::List(file) => show_list(alloc, file, source, target, out),
         Ask::Check(file) => check_file(alloc, file, source, target, out),
         Ask::Blob(file, k) => show_blob(alloc, file, k, source, target, out),
+        Ask::Extract(file, ask) => show_rows(alloc, file, &ask, source, target, out),
     }
 }

@@ -14,8 +14,10 @@ pub struct WordFault {
 /// Reads the words one after another.
 #[derive(Clone, Copy)]
 pub struct Cursor<'a> {
-    words: &'a [String],
-    next: usize,
+    /// All words.
+    pub words: &'a [String],
+    /// The number of the next one.
+    pub next: usize,
 }
 
 impl<'a> Cursor<'a> {
@@ -83,9 +85,9 @@ impl<'a> Cursor<'a> {
 /// The most digits of a number.
 const MOST_DIGITS: usize = 20;
 
-// The number that a word of decimal digits writes.
+/// The number that a word of decimal digits writes.
 #[tactic(auto, unfolding(crate::specs::Cursor::number_of))]
-fn number_of(word: &str) -> Option<u64>
+pub fn number_of(word: &str) -> Option<u64>
     ensures { result ≡ number_of word.now }
 {
     if word.len() > MOST_DIGITS || !are_digits(word.as_bytes()) {

@@ -1,12 +1,14 @@
 //! What the words of a command line ask for.
 
-ghost use Rattle.std.specs.Prelude.{◌≡◌, Ok, Err, map, string_bytes, MatchResult};
+ghost use Rattle.std.specs.Prelude.{◌≡◌, Ok, Err, map, string_bytes, IfOk, MatchResult};
 ghost use Rattle.e57_tool.specs.Cursor.{unread, at_end};
-ghost use Rattle.e57_tool.specs.Words.{ask_of, blob_ask, command_ask, command_of, only_place};
+ghost use Rattle.e57_tool.specs.Words.{IsLimitedAsk, ask_of, blob_ask, command_ask, command_of, extract_ask, only_place};
 
 use crate::cursor::{Cursor, WordFault};
+use crate::options::read_options;
+use e57_show::RowsAsk;
 
-/// What the words ask for: a command with its places.
+/// What the words ask for: a command with its places and options.
 #[derive(Clone, Copy, Debug, PartialEq, Eq)]
 pub enum Ask<'a> {
     /// `--help`
@@ -23,6 +25,8 @@ pub enum Ask<'a> {
     Check(&'a str),
     /// `blob FILE K`
     Blob(&'a str, u64),
+    /// `extract FILE CLOUD`, and options
+    Extract(&'a str, RowsAsk<'a>),
 }
 
 // The one place behind a command, a file's name, and no word behind it.
@@ -58,12 +62,26 @@ fn read_blob(mut words: Cursor<'_>) -> Result<Ask<'_>, WordFault>
     Ok(Ask::Blob(file, k))
 }
 
+// A file's name, the number of a cloud, and options.
+fn read_extract(mut words: Cursor<'_>) -> Result<Ask<'_>, WordFault>
+    ensures ask { MatchResult result
+        (λ ask. extract_ask (unread words.entry) ≡ Ok (command_of ask))
+        (λ fault. extract_ask (unread words.entry) ≡ Err fault.at) }
+    ensures limits { IfOk result IsLimitedAsk }
+{
+    let file = words.place()?;
+    let cloud = words.number()?;
+    let options = read_options(words)?;
+    Ok(Ask::Extract(file, options.of_cloud(cloud)))
+}
+
 // What a command with the words behind it asks for.
 #[tactic(auto, unfolding(crate::specs::Words::command_ask))]
 fn read_command<'a>(command: &str, words: Cursor<'a>) -> Result<Ask<'a>, WordFault>
-    ensures { MatchResult result
+    ensures ask { MatchResult result
         (λ ask. command_ask command.now (unread words.entry) ≡ Ok (command_of ask))
         (λ fault. command_ask command.now (unread words.entry) ≡ Err fault.at) }
+    ensures limits { IfOk result IsLimitedAsk }
 {
     match command {
         "--help" => no_place(Ask::Help, words),
@@ -73,15 +91,17 @@ fn read_command<'a>(command: &str, words: Cursor<'a>) -> Result<Ask<'a>, WordFau
         "list" => Ok(Ask::List(only_place(words)?)),
         "check" => Ok(Ask::Check(only_place(words)?)),
         "blob" => read_blob(words),
+        "extract" => read_extract(words),
         _ => Err(WordFault { at: 0 }),
     }
 }
 
 /// Reads the words of a command line, without the program's name. Takes no memory.
 pub fn read_words(words: &[String]) -> Result<Ask<'_>, WordFault>
-    ensures { MatchResult result
+    ensures ask { MatchResult result
         (λ ask. ask_of (map string_bytes words.now) ≡ Ok (command_of ask))
         (λ fault. ask_of (map string_bytes words.now) ≡ Err fault.at) }
+    ensures limits { IfOk result IsLimitedAsk }
 {
     let [command, ..] = words else {
         return Err(WordFault { at: 0 });

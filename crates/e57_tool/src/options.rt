@@ -1,0 +1,205 @@
+//! Words `--NAME=VALUE` behind the places of a command.
+
+ghost use Rattle.std.specs.Prelude.{◌≡◌, ◌+◌, ◌<◌, ◌≤◌, length, map, option_map, MatchOption, MatchResult, Ok, Err, None, Some, IfSome, IfOk};
+ghost use Rattle.std.specs.List.{list_any};
+ghost use Rattle.std.specs.Str.{bytes_eq};
+ghost use Rattle.e57_show.specs.Extract.{IsLimited, asked_by, names_in, most_asked};
+ghost use Rattle.e57_tool.specs.Cursor.{unread};
+ghost use Rattle.e57_tool.specs.Options.{AreLimited, are_distinct, given_by, is_new, names_asked, nothing_given, number_asked, rows_asked, rows_options, value_behind, with_option, with_options, given_once};
+
+use crate::cursor::{Cursor, WordFault, number_of};
+use e57_show::RowsAsk;
+
+/// The options of `extract`.
+#[derive(Clone, Copy)]
+pub struct RowsOptions<'a> {
+    /// The paths of fields, separated by commas.
+    pub fields: Option<&'a str>,
+    /// The number of the first record.
+    pub from: Option<u64>,
+    /// How many records.
+    pub count: Option<u64>,
+}
+
+impl<'a> RowsOptions<'a> {
+    /// No option.
+    fn none() -> RowsOptions<'a>
+        ensures given { given_by result ≡ nothing_given }
+        ensures limits { AreLimited result }
+    {
+        RowsOptions {
+            fields: None,
+            from: None,
+            count: None,
+        }
+    }
+
+    /// What they ask of a cloud: all its fields and records, where they don't say otherwise.
+    pub fn of_cloud(&self, cloud: u64) -> RowsAsk<'a>
+        requires { AreLimited self.now }
+        ensures asked { asked_by result ≡ rows_asked cloud (given_by self.now) }
+        ensures limits { IsLimited result }
+    {
+        RowsAsk {
+            cloud,
+            fields: self.fields,
+            from: self.from.unwrap_or(0),
+            count: self.count,
+        }
+    }
+}
+
+/// The most names of a list: as many as a cloud has fields.
+const MOST_NAMES: usize = 512;
+
+/// The most records, and the greatest number of one.
+const MOST_RECORDS: u64 = 1 << 40;
+
+// The value that a word has behind this front, if it begins so.
+fn value_behind<'a>(front: &str, word: &'a str) -> Option<&'a str>
+    ensures { option_map (λ value. value.now) result ≡ value_behind front.now word.now }
+{
+    word.strip_prefix(front)
+}
+
+// The number of a record, or a number of records.
+fn number_asked(value: &str) -> Option<u64>
+    ensures value { result ≡ number_asked value.now }
+    ensures limit { IfSome result (λ n. n ≤ most_asked) }
+{
+    let n = number_of(value)?;
+    if n > MOST_RECORDS {
+        return None;
+    }
+    Some(n)
+}
+
+// Whether one of the names of the list is this one.
+fn has_name(list: &str, name: &str) -> bool
+    ensures { result ≡ list_any (λ other. bytes_eq other name.now) (names_in list.now) }
+{
+    list.split(',').any(|other| other == name)
+}
+
+// Whether the name is not empty, and none of the others is the same.
+fn is_new(name: &str, others: &str) -> bool
+    ensures { result ≡ is_new name.now (names_in others.now) }
+{
+    !name.is_empty() && !has_name(others, name)
+}
+
+// Whether no name of the list is empty, and all differ.
+fn are_distinct(list: &str) -> bool
+    ensures { result ≡ are_distinct (names_in list.now) }
+{
+    let mut left = list;
+    'names: while let Some((name, others)) = left.split_once(',') {
+        if !is_new(name, others) {
+            return false;
+        }
+        left = others;
+    }
+    !left.is_empty()
+}
+
+// How many names the list has.
+fn name_count(list: &str) -> usize
+    ensures { result ≡ length (names_in list.now) }
+{
+    list.split(',').count()
+}
+
+// The list, if it has 1 to 512 names, all different and none empty.
+#[tactic(auto, unfolding(crate::specs::Options::names_asked))]
+fn names_asked(value: &str) -> Option<&str>
+    ensures { option_map (λ list. names_in list.now) result ≡ names_asked value.now }
+{
+    if name_count(value) > MOST_NAMES || !are_distinct(value) {
+        return None;
+    }
+    Some(value)
+}
+
+// These options, and the names of fields, if none stand and these may.
+fn with_fields<'a>(given: RowsOptions<'a>, value: &'a str) -> Option<RowsOptions<'a>>
+    requires { AreLimited given }
+    ensures given { option_map given_by result ≡ given_once (given_by given.entry).names (names_asked value.now) (λ names. record (given_by given.entry) { names = Some names }) }
+    ensures limits { IfSome result AreLimited }
+{
+    match (given.fields, names_asked(value)) {
+        (None, Some(list)) => Some(RowsOptions {
+            fields: Some(list),
+            from: given.from,
+            count: given.count,
+        }),
+        _ => None,
+    }
+}
+
+// These options, and the number of the first record, if none stands and this may.
+fn with_from<'a>(given: RowsOptions<'a>, value: &'a str) -> Option<RowsOptions<'a>>
+    requires { AreLimited given }
+    ensures given { option_map given_by result ≡ given_once (given_by given.entry).from (number_asked value.now) (λ n. record (given_by given.entry) { from = Some n }) }
+    ensures limits { IfSome result AreLimited }
+{
+    match (given.from, number_asked(value)) {
+        (None, Some(n)) => Some(RowsOptions {
+            fields: given.fields,
+            from: Some(n),
+            count: given.count,
+        }),
+        _ => None,
+    }
+}
+
+// These options, and how many records, if no number stands and this may.
+fn with_count<'a>(given: RowsOptions<'a>, value: &'a str) -> Option<RowsOptions<'a>>
+    requires { AreLimited given }
+    ensures given { option_map given_by result ≡ given_once (given_by given.entry).count (number_asked value.now) (λ n. record (given_by given.entry) { count = Some n }) }
+    ensures limits { IfSome result AreLimited }
+{
+    match (given.count, number_asked(value)) {
+        (None, Some(n)) => Some(RowsOptions {
+            fields: given.fields,
+            from: given.from,
+            count: Some(n),
+        }),
+        _ => None,
+    }
+}
+
+// These options and one more that a word writes, if it writes one that may stand here.
+#[tactic(auto, unfolding(crate::specs::Options::with_option))]
+fn with_option<'a>(given: RowsOptions<'a>, word: &'a str) -> Option<RowsOptions<'a>>
+    requires { AreLimited given }
+    ensures given { option_map given_by result ≡ with_option rows_options word.now (given_by given.entry) }
+    ensures limits { IfSome result AreLimited }
+{
+    if let Some(value) = value_behind("--fields=", word) {
+        return with_fields(given, value);
+    }
+    if let Some(value) = value_behind("--from=", word) {
+        return with_from(given, value);
+    }
+    if let Some(value) = value_behind("--count=", word) {
+        return with_count(given, value);
+    }
+    None
+}
+
+/// The options that the words which are left write, each at most once.
+pub fn read_options<'a>(words: Cursor<'a>) -> Result<RowsOptions<'a>, WordFault>
+    ensures given { MatchResult result
+        (λ options. with_options rows_options (unread words.entry).at (unread words.entry).words nothing_given ≡ Ok (given_by options))
+        (λ fault. with_options rows_options (unread words.entry).at (unread words.entry).words nothing_given ≡ Err fault.at) }
+    ensures limits { IfOk result AreLimited }
+{
+    let mut given = RowsOptions::none();
+    for at in words.next..words.words.len() {
+        let Some(more) = with_option(given, words.words[at].as_str()) else {
+            return Err(WordFault { at: at as u64 });
+        };
+        given = more;
+    }
+    Ok(given)
+}
