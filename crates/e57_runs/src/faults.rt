@@ -1,7 +1,7 @@
 //! The faults of the XML section, and of its text.
 
-use crate::files::{WordOrder, changed, file, file_of_text, header};
-use crate::runs::run_on;
+use e57_samples::files::{WordOrder, changed, file, file_of_text, header};
+use e57_samples::runs::run_on;
 use e57_tool::Status;
 use std::test::*;
 
