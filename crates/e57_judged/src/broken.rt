@@ -56,7 +56,10 @@ fn each_failed_call_of_the_source_is_a_source_fault(rt: HostRuntime) -> Result<(
             assert!(rt; ended.is(Status::Done, ACCEPTED, b"") && call == calls.wrapping_add(1));
             return Ok(());
         }
-        assert!(rt; ended.is(Status::SourceFault, b"", b"source fault\n"), "{call}");
+        assert!(rt;
+            ended.is(Status::SourceFault, b"", b"source fault\n"),
+            "{call}"
+        );
         let without_line = with_failing_source(alloc, call, failing_sink(alloc)?)?;
         assert!(rt; without_line.is(Status::SourceFault, b"", b""), "{call}");
     }

@@ -61,7 +61,9 @@ pub fn logical_of(alloc: Global, sample: Sample) -> Result<Vec<u8>, AllocError> 
 }
 
 fn one_page(alloc: Global, count: &str, field: &str) -> Result<Vec<u8>, AllocError> {
-    let text = format!(in alloc; "<e57Root type='Structure'><p type='CompressedVector' fileOffset='48' recordCount='{count}'><prototype type='Structure'>{field}</prototype></p></e57Root>")?;
+    let text = format!(in alloc;
+        "<e57Root type='Structure'><p type='CompressedVector' fileOffset='48' recordCount='{count}'><prototype type='Structure'>{field}</prototype></p></e57Root>"
+    )?;
     close_together(alloc, 1, SECTION, text.as_bytes())
 }
 
@@ -117,12 +119,15 @@ const SIX_FIELDS_TEXT: &str = "<?xml version=\"1.0\" encoding=\"UTF-8\"?>
 
 // The section of the file of six fields, from place 1020 on: its header, a data packet of 16 records at 1052, one of 4 records at
 // 1272, and an index packet at 1340.
-const SIX_FIELDS: &[u8] = b"\x01\0\0\0\0\0\0\0\x70\x01\0\0\0\0\0\0\x20\x04\0\0\0\0\0\0\x40\x05\0\0\0\0\0\0\
+const SIX_FIELDS: &[u8] =
+    b"\x01\0\0\0\0\0\0\0\x70\x01\0\0\0\0\0\0\x20\x04\0\0\0\0\0\0\x40\x05\0\0\0\0\0\0\
 \x01\x01\xdb\0\x06\0\x28\0\x28\0\x10\0\0\0\x40\0\x28\0\0\0\x30\0\0\x06\0\x90\0\0\x0c\0\xf0\0\0\x12\0\x50\x01\0\x18\0\xb0\x01\0\x1e\0\x10\x02\0\x24\0\x70\x02\0\x2a\0\xd0\x02\0\0\0\x50\0\0\x0a\0\xf0\0\0\x14\0\x90\x01\0\x1e\0\x30\x02\0\x28\0\xd0\x02\0\x32\0\x70\x03\0\x3c\0\x10\x04\0\x46\0\xb0\x04\0\0\x01\x02\x03\x04\x05\x06\x07\x08\x09\x0a\x0b\x0c\x0d\x0e\x0f\0\0\x80\x3f\x01\0\x80\x3f\x02\0\x80\x3f\x03\0\x80\x3f\x04\0\x80\x3f\x05\0\x80\x3f\x06\0\x80\x3f\x07\0\x80\x3f\x08\0\x80\x3f\x09\0\x80\x3f\x0a\0\x80\x3f\x0b\0\x80\x3f\x0c\0\x80\x3f\x0d\0\x80\x3f\x0e\0\x80\x3f\x0f\0\x80\x3f\0\x02\x61\x04\x61\x61\x06\x61\x61\x61\0\x02\x61\x04\x61\x61\x06\x61\x61\x61\0\x02\x61\x04\x61\x61\x06\x61\x61\x61\0\x02\x61\x04\x61\x61\x06\x61\x61\x61\0\0\
 \x01\x01\x43\0\x06\0\x0a\0\x0a\0\x04\0\0\0\x10\0\x0a\0\x30\0\x30\x03\0\x36\0\x90\x03\0\x50\0\x50\x05\0\x5a\0\xf0\x05\0\x10\x11\x12\x13\x10\0\x80\x3f\x11\0\x80\x3f\x12\0\x80\x3f\x13\0\x80\x3f\0\x02\x61\x04\x61\x61\x06\x61\x61\x61\
 \0\0\x2f\0\x02\0\0\0\0\0\0\0\0\0\0\0\0\0\0\0\0\0\0\0\x20\x04\0\0\0\0\0\0\x10\0\0\0\0\0\0\0\xfc\x04\0\0\0\0\0\0";
 
-const LONGEST_PACKET_TEXT: &str = "<e57Root type='Structure'><p type='CompressedVector' fileOffset='1024' recordCount='8191'><prototype type='Structure'><d type='Float'/></prototype></p></e57Root>";
+const LONGEST_PACKET_TEXT: &str =
+    "<e57Root type='Structure'><p type='CompressedVector' fileOffset='1024' recordCount='8191'><prototype type='Structure'><d type='Float'/></prototype></p></e57Root>";
 
 // The header of a section of 65,568 bytes, and the head of a packet with a stream of 65,528 bytes.
-const LONGEST_PACKET: &[u8] = b"\x01\0\0\0\0\0\0\0\x20\0\x01\0\0\0\0\0\x20\x04\0\0\0\0\0\0\0\0\0\0\0\0\0\0\x01\x01\xff\xff\x01\0\xf8\xff";
+const LONGEST_PACKET: &[u8] =
+    b"\x01\0\0\0\0\0\0\0\x20\0\x01\0\0\0\0\0\x20\x04\0\0\0\0\0\0\0\0\0\0\0\0\0\0\x01\x01\xff\xff\x01\0\xf8\xff";

@@ -95,7 +95,9 @@ pub fn number(bytes: &[u8], at: u64, size: u64) -> Result<u64, Stop> {
 // The logical place of a physical offset. The four bytes of a page's word have none.
 pub fn place(offset: u64) -> Option<u64> {
     if offset % 1024 < 1020 {
-        (offset / 1024).checked_mul(1020)?.checked_add(offset % 1024)
+        (offset / 1024)
+            .checked_mul(1020)?
+            .checked_add(offset % 1024)
     } else {
         None
     }

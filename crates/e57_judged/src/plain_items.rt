@@ -4,7 +4,13 @@ use crate::plain::{Kind, Stop, fits, product, refuse_if, sum};
 use crate::plain_chunks::Chunk;
 
 // The items of field f, over the chunks in order.
-pub fn judge_field(f: usize, node: u64, kind: Kind, count: u64, chunks: &[Chunk]) -> Result<(), Stop> {
+pub fn judge_field(
+    f: usize,
+    node: u64,
+    kind: Kind,
+    count: u64,
+    chunks: &[Chunk],
+) -> Result<(), Stop> {
     for (j, chunk) in chunks.iter().enumerate() {
         let until = match chunks.get(j.wrapping_add(1)) {
             Some(next) => next.first,
@@ -38,21 +44,13 @@ fn bits(stream: &[u8], t: u64, count: u64) -> Option<u64> {
     for k in (0..count).rev() {
         let bit = t.checked_add(k)?;
         let byte = *stream.get((bit / 8) as usize)? as u64;
-        value = value
-            .checked_mul(2)?
-            .checked_add(byte >> (bit % 8) & 1)?;
+        value = value.checked_mul(2)?.checked_add(byte >> (bit % 8) & 1)?;
     }
     Some(value)
 }
 
 // Of integers that take no bits nothing is read.
-fn judge_integers(
-    stream: &[u8],
-    node: u64,
-    span: u64,
-    first: u64,
-    until: u64,
-) -> Result<(), Stop> {
+fn judge_integers(stream: &[u8], node: u64, span: u64, first: u64, until: u64) -> Result<(), Stop> {
     let width = width(span);
     if width == 0 {
         return Ok(());
@@ -66,13 +64,7 @@ fn judge_integers(
     Ok(())
 }
 
-fn judge_floats(
-    stream: &[u8],
-    node: u64,
-    bytes: u64,
-    first: u64,
-    until: u64,
-) -> Result<(), Stop> {
+fn judge_floats(stream: &[u8], node: u64, bytes: u64, first: u64, until: u64) -> Result<(), Stop> {
     for record in first..until {
         let from = product(record.wrapping_sub(first), bytes)?;
         let short = !fits(from, bytes, stream.len() as u64);

@@ -103,20 +103,32 @@ const FOUR_FIELDS: &[Field] = &[
     (6, Kind::String),
 ];
 
-#[test]
-fn a_chunk_of_four_fields(rt: HostRuntime) -> Result<(), Fail> {
-    let cloud = Cloud {
+const ONE_CHUNK: Swept = Swept {
+    sample: Sample::ThreeRecords,
+    edits: &[],
+    cloud: Cloud {
         node: 1,
         offset: 1024,
         count: 3,
         fields: FOUR_FIELDS,
-    };
-    let swept = Swept {
-        sample: Sample::ThreeRecords,
-        edits: &[],
-        cloud,
-    };
-    assert_eq!(rt; first_difference(rt.alloc(), &swept, 1020, 1120)?, None);
+    },
+};
+
+#[test]
+fn header_of_one_chunk(rt: HostRuntime) -> Result<(), Fail> {
+    assert_eq!(rt; first_difference(rt.alloc(), &ONE_CHUNK, 1020, 1052)?, None);
+    Ok(())
+}
+
+#[test]
+fn packet_of_four_fields(rt: HostRuntime) -> Result<(), Fail> {
+    assert_eq!(rt; first_difference(rt.alloc(), &ONE_CHUNK, 1052, 1088)?, None);
+    Ok(())
+}
+
+#[test]
+fn index_of_one_chunk(rt: HostRuntime) -> Result<(), Fail> {
+    assert_eq!(rt; first_difference(rt.alloc(), &ONE_CHUNK, 1088, 1120)?, None);
     Ok(())
 }
 
@@ -129,22 +141,32 @@ const SIX_FIELDS: &[Field] = &[
     (10, Kind::String),
 ];
 
-// The header and the heads of both data packets of a section whose chunks are told by a Float field alone.
-#[test]
-fn counted_chunks_of_six_fields(rt: HostRuntime) -> Result<(), Fail> {
-    let cloud = Cloud {
+// Without an index, so that the Float field tells where the second chunk begins.
+const COUNTED: Swept = Swept {
+    sample: Sample::SixFields,
+    edits: &[(1044, b"\0\0")],
+    cloud: Cloud {
         node: 3,
         offset: 1024,
         count: 20,
         fields: SIX_FIELDS,
-    };
-    let swept = Swept {
-        sample: Sample::SixFields,
-        edits: &[(1044, b"\0\0")],
-        cloud,
-    };
-    for (from, until) in [(1020, 1072), (1272, 1292)] {
-        assert_eq!(rt; first_difference(rt.alloc(), &swept, from, until)?, None);
-    }
+    },
+};
+
+#[test]
+fn header_of_counted_chunks(rt: HostRuntime) -> Result<(), Fail> {
+    assert_eq!(rt; first_difference(rt.alloc(), &COUNTED, 1020, 1052)?, None);
+    Ok(())
+}
+
+#[test]
+fn first_packet_of_counted_chunks(rt: HostRuntime) -> Result<(), Fail> {
+    assert_eq!(rt; first_difference(rt.alloc(), &COUNTED, 1052, 1072)?, None);
+    Ok(())
+}
+
+#[test]
+fn second_packet_of_counted_chunks(rt: HostRuntime) -> Result<(), Fail> {
+    assert_eq!(rt; first_difference(rt.alloc(), &COUNTED, 1272, 1292)?, None);
     Ok(())
 }

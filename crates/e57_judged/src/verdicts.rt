@@ -19,25 +19,53 @@ pub fn is_judged(alloc: Global, bytes: Vec<u8>, line: &str) -> Result<bool, Allo
 }
 
 const ONE_PAGE: Sample = Sample::OnePage("13", BIT);
+
 const FOURTEEN: Sample = Sample::OnePage("14", BIT);
-const TWO_FIELDS: Sample = Sample::OnePage("13", "<x type='Integer' minimum='0' maximum='1'/><y type='Integer'/>");
+
+const TWO_FIELDS: Sample = Sample::OnePage(
+    "13",
+    "<x type='Integer' minimum='0' maximum='1'/><y type='Integer'/>",
+);
+
 const STRING: Sample = Sample::OnePage("1", "<x type='String'/>");
-const CONSTANT: Sample = Sample::OnePage("1099511627776", "<x type='Integer' minimum='5' maximum='5'/>");
-const TOO_MANY: Sample = Sample::OnePage("1099511627777", "<x type='Integer' minimum='5' maximum='5'/>");
+
+const CONSTANT: Sample = Sample::OnePage(
+    "1099511627776",
+    "<x type='Integer' minimum='5' maximum='5'/>",
+);
+
+const TOO_MANY: Sample = Sample::OnePage(
+    "1099511627777",
+    "<x type='Integer' minimum='5' maximum='5'/>",
+);
 
 // A data packet with a stream of a string's prefix, which states a length above the limit or at it.
 const LONG_STRING: &[u8] = b"\x01\x01\x0f\0\x01\0\x08\0\x03\0\0\x02\0\0\0\0";
+
 const LONGEST_STRING: &[u8] = b"\x01\x01\x0f\0\x01\0\x08\0\x01\0\0\x02\0\0\0\0";
 
-const NO_RECORDS: Sample = Sample::InRoot("<p type='CompressedVector' fileOffset='0' recordCount='0'><prototype type='Structure'><x type='Integer'/></prototype></p>");
-const CODECS: Sample = Sample::InRoot("<p type='CompressedVector' fileOffset='0' recordCount='0'><prototype type='Structure'><x type='Integer'/></prototype><codecs type='Vector'><v type='Structure'/></codecs></p>");
-const PROTOTYPE: Sample = Sample::InRoot("<p type='CompressedVector' fileOffset='0' recordCount='0'><prototype type='Vector'/></p>");
-const NO_FIELDS: Sample = Sample::InRoot("<p type='CompressedVector' fileOffset='0' recordCount='0'><prototype type='Structure'/></p>");
+const NO_RECORDS: Sample = Sample::InRoot(
+    "<p type='CompressedVector' fileOffset='0' recordCount='0'><prototype type='Structure'><x type='Integer'/></prototype></p>",
+);
+
+const CODECS: Sample = Sample::InRoot(
+    "<p type='CompressedVector' fileOffset='0' recordCount='0'><prototype type='Structure'><x type='Integer'/></prototype><codecs type='Vector'><v type='Structure'/></codecs></p>",
+);
+
+const PROTOTYPE: Sample = Sample::InRoot(
+    "<p type='CompressedVector' fileOffset='0' recordCount='0'><prototype type='Vector'/></p>",
+);
+
+const NO_FIELDS: Sample = Sample::InRoot(
+    "<p type='CompressedVector' fileOffset='0' recordCount='0'><prototype type='Structure'/></p>",
+);
 
 // Digits of the elements, by their places: `recordCount` of three records and of six fields, and `maximum` of the first of
 // three records' fields.
 const THREE: usize = 2163;
+
 const TWENTY: usize = 2273;
+
 const SEVEN: usize = 2233;
 
 // What a file holds, its changed bytes, and the line of `check`.
@@ -146,31 +174,40 @@ fn words_are_right_in_both_orders(rt: HostRuntime) -> Result<(), Fail> {
     Ok(())
 }
 
-// A file of so many pages, all zeros but for the header, which states a section of 2^26 + 1 bytes from byte 48 on.
+// The header of a file of so many pages, which states a section of 2^26 + 1 bytes from byte 48 on.
 fn long_file(alloc: Global, pages: u64) -> Result<Vec<u8>, AllocError> {
     let first = header(alloc, pages, 48, 67108865)?;
-    let mut bytes = file(alloc, &first, WordOrder::MostSignificantFirst)?;
-    let page = file(alloc, &[0; 1020], WordOrder::MostSignificantFirst)?;
-    for _ in 1..pages {
-        bytes.extend_from_slice(&page)?;
-    }
-    Ok(bytes)
+    file(alloc, &first, WordOrder::MostSignificantFirst)
 }
 
-// The shortest file that has room for the section, and one that is a page shorter: their pages, and the line.
+// How many pages the shortest file has with room for the section, and the line for a file of so many.
 const LIMITS: [(u64, &str); 2] = [
     (65793, "refused XmlPlace 48 67108865\n"),
     (65794, "refused XmlLimit 67108865 67108864\n"),
 ];
 
+// `info` asks for page 0 alone, so the others have no words.
 #[test]
-fn the_text_has_a_limit(rt: HostRuntime) -> Result<(), Fail> {
+fn info_judges_the_length_of_the_text(rt: HostRuntime) -> Result<(), Fail> {
     let alloc = rt.alloc();
     for (pages, line) in &LIMITS {
-        assert!(rt; is_judged(alloc, long_file(alloc, *pages)?, line)?, "{line}");
-        let ended = run_on(alloc, &["info", "scan"], long_file(alloc, *pages)?)?;
+        let mut bytes = long_file(alloc, *pages)?;
+        bytes.resize(pages.wrapping_mul(1024) as usize, 0)?;
+        let ended = run_on(alloc, &["info", "scan"], bytes)?;
         let is_so = ended.is(Status::Refused, b"", line.as_bytes()) && ended.asked_for(&[0]);
         assert!(rt; is_so, "{line}");
     }
+    Ok(())
+}
+
+#[test]
+fn check_judges_the_length_of_the_text(rt: HostRuntime) -> Result<(), Fail> {
+    let alloc = rt.alloc();
+    let mut bytes = long_file(alloc, 65794)?;
+    let page = file(alloc, &[0; 1020], WordOrder::MostSignificantFirst)?;
+    for _ in 1..65794 {
+        bytes.extend_from_slice(&page)?;
+    }
+    assert!(rt; is_judged(alloc, bytes, "refused XmlLimit 67108865 67108864\n")?);
     Ok(())
 }

@@ -10,5 +10,3 @@ mod commands;
 mod faults;
 #[cfg(test)]
 mod listings;
-#[cfg(test)]
-mod verdicts;
