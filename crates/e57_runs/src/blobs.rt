@@ -1,8 +1,8 @@
 //! The bytes of blobs.
 
-use crate::files::{WordOrder, changed, file, header};
-use crate::runs::{Ended, room, run_on, run_words, source_of};
 use e57_base::MemSink;
+use e57_samples::files::{WordOrder, changed, file, header};
+use e57_samples::runs::{Ended, room, run_on, run_words, source_of};
 use e57_tool::Status;
 use std::alloc::{AllocError, Global};
 use std::test::*;

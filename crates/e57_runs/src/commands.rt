@@ -1,7 +1,7 @@
 //! Each command line, and what it puts.
 
-use crate::files::{THREE_RECORDS_TEXT, WordOrder, changed, three_records, two_pages};
-use crate::runs::{failing_sink, room, run_on, run_words, source_of};
+use e57_samples::files::{THREE_RECORDS_TEXT, WordOrder, changed, three_records, two_pages};
+use e57_samples::runs::{failing_sink, room, run_on, run_words, source_of};
 use e57_tool::Status;
 use std::alloc::{AllocError, Global};
 use std::test::*;

@@ -1,7 +1,7 @@
 //! The faults of the XML section, and of its text.
 
-use crate::files::{WordOrder, changed, file, file_of_text, header};
-use crate::runs::run_on;
+use e57_samples::files::{changed, file_of_text};
+use e57_samples::runs::run_on;
 use e57_tool::Status;
 use std::test::*;
 
@@ -91,28 +91,6 @@ fn info_judges_the_place_of_the_section(rt: HostRuntime) -> Result<(), Fail> {
         let bytes = changed(file_of_text(alloc, &text, *place, *length)?, 2100);
         let ended = run_on(alloc, &["info", "scan"], bytes)?;
         let is_so = ended.is(Status::Refused, b"", err.as_bytes()) && ended.asked_for(asked);
-        assert!(rt; is_so, "{err}");
-    }
-    Ok(())
-}
-
-// How many pages the shortest file has with room for a section of 2^26 + 1 bytes from byte 48 on, and the line on
-// `err` for a file of so many.
-const LIMITS: [(u64, &str); 2] = [
-    (65793, "refused XmlPlace 48 67108865\n"),
-    (65794, "refused XmlLimit 67108865 67108864\n"),
-];
-
-// The pages behind the first one aren't asked for, so they have no words.
-#[test]
-fn info_judges_the_length_of_the_section(rt: HostRuntime) -> Result<(), Fail> {
-    let alloc = rt.alloc();
-    for (pages, err) in &LIMITS {
-        let first = header(alloc, *pages, 48, 67108865)?;
-        let mut bytes = file(alloc, &first, WordOrder::MostSignificantFirst)?;
-        bytes.resize(pages.wrapping_mul(1024) as usize, 0)?;
-        let ended = run_on(alloc, &["info", "scan"], bytes)?;
-        let is_so = ended.is(Status::Refused, b"", err.as_bytes()) && ended.asked_for(&[0]);
         assert!(rt; is_so, "{err}");
     }
     Ok(())

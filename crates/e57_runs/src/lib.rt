@@ -9,12 +9,6 @@ mod commands;
 #[cfg(test)]
 mod faults;
 #[cfg(test)]
-mod files;
-#[cfg(test)]
 mod listings;
 #[cfg(test)]
 mod rows;
-#[cfg(test)]
-mod runs;
-#[cfg(test)]
-mod verdicts;

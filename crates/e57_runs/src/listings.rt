@@ -1,7 +1,7 @@
 //! The clouds and blobs of a file, and the faults of its nodes.
 
-use crate::files::{file_of_text, two_points};
-use crate::runs::run_on;
+use e57_samples::files::{file_of_text, two_points};
+use e57_samples::runs::run_on;
 use e57_tool::Status;
 use std::test::*;
 

@@ -1,8 +1,8 @@
 //! Records of a cloud, in rows.
 
-use crate::files::{WordOrder, changed, file, header, three_records, two_points};
-use crate::runs::{Ended, ROOM, room, run_on, run_words, source_of};
 use e57_base::MemSink;
+use e57_samples::files::{WordOrder, changed, file, header, three_records, two_points};
+use e57_samples::runs::{Ended, ROOM, room, run_on, run_words, source_of};
 use e57_tool::Status;
 use std::alloc::{AllocError, Global};
 use std::test::*;
@@ -10,12 +10,7 @@ use std::test::*;
 // ---- files
 
 // A file with this section from byte 48 on, and this text from place `at` on.
-fn file_with(
-    alloc: Global,
-    section: &[u8],
-    text: &str,
-    at: usize,
-) -> Result<Vec<u8>, AllocError> {
+fn file_with(alloc: Global, section: &[u8], text: &str, at: usize) -> Result<Vec<u8>, AllocError> {
     let pages = at.wrapping_add(text.len()).div_ceil(1020);
     let place = (at / 1020).wrapping_mul(1024).wrapping_add(at % 1020);
     let mut logical = header(alloc, pages as u64, place as u64, text.len() as u64)?;
@@ -110,8 +105,7 @@ const CHUNKS_ROWS: &str = "cartesianX,cartesianY,intensity,rowIndex,cartesianZ,t
 ";
 
 // An index packet of one entry: record 0, and the data packet at byte 80.
-const ONE_ENTRY: &[u8] =
-    b"\0\0\x1f\0\x01\0\0\0\0\0\0\0\0\0\0\0\0\0\0\0\0\0\0\0\x50\0\0\0\0\0\0\0";
+const ONE_ENTRY: &[u8] = b"\0\0\x1f\0\x01\0\0\0\0\0\0\0\0\0\0\0\0\0\0\0\0\0\0\0\x50\0\0\0\0\0\0\0";
 
 // The file of two points with an index packet behind the data, at byte 136, and so the text at byte 168.
 fn indexed_points(alloc: Global) -> Result<Vec<u8>, AllocError> {
@@ -133,8 +127,7 @@ const NO_RECORDS_TEXT: &str =
     "<e57Root type=\"Structure\"><p type=\"CompressedVector\" fileOffset=\"0\" recordCount=\"0\"><prototype type=\"Structure\"><x type=\"Integer\"/></prototype></p></e57Root>";
 
 // A section header of 32 bytes, with no packet behind it.
-const NO_PACKETS: &[u8] =
-    b"\x01\0\0\0\0\0\0\0\x20\0\0\0\0\0\0\0\x50\0\0\0\0\0\0\0\0\0\0\0\0\0\0\0";
+const NO_PACKETS: &[u8] = b"\x01\0\0\0\0\0\0\0\x20\0\0\0\0\0\0\0\x50\0\0\0\0\0\0\0\0\0\0\0\0\0\0\0";
 
 const CONSTANT_TEXT: &str =
     "<e57Root type=\"Structure\"><p type=\"CompressedVector\" fileOffset=\"48\" recordCount=\"1099511627776\"><prototype type=\"Structure\"><x type=\"Integer\" minimum=\"5\" maximum=\"5\"/></prototype></p></e57Root>";
@@ -379,7 +372,10 @@ fn each_failed_call_of_the_source_is_a_source_fault(rt: HostRuntime) -> Result<(
             assert!(rt; call == 4 && ended.out.bytes() == THREE_ROWS);
             return Ok(());
         }
-        assert!(rt; fails_so(&ended, Status::SourceFault, "source fault\n"), "{call}");
+        assert!(rt;
+            fails_so(&ended, Status::SourceFault, "source fault\n"),
+            "{call}"
+        );
     }
     assert!(rt; false, "no run is done");
     Ok(())
@@ -394,7 +390,10 @@ fn each_failed_put_is_an_output_fault(rt: HostRuntime) -> Result<(), Fail> {
             assert!(rt; call > 0 && ended.out.bytes() == THREE_ROWS);
             return Ok(());
         }
-        assert!(rt; fails_so(&ended, Status::OutFault, "output fault\n"), "{call}");
+        assert!(rt;
+            fails_so(&ended, Status::OutFault, "output fault\n"),
+            "{call}"
+        );
     }
     assert!(rt; false, "no run is done");
     Ok(())

@@ -1,0 +1,5 @@
+//! Files that are made in memory, and runs of the program over them. Only tests use them.
+#![tactic(auto)]
+
+pub mod files;
+pub mod runs;
