@@ -2,8 +2,8 @@
 //! after another (ASTM E2807, compressed vector binary sections).
 #![tactic(auto)]
 
-mod heading;
+mod paths;
 mod put;
 
-pub use heading::heading;
+pub use paths::heading;
 pub use put::put_rows;

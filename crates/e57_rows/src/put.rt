@@ -7,8 +7,7 @@ ghost use Rattle.e57_page.specs.Place.{payload_length};
 ghost use Rattle.e57_layout.specs.Values.{IsValidField};
 ghost use Rattle.e57_section.specs.Opening.{LiesIn};
 ghost use Rattle.e57_ahead.specs.Counting.{IsWidth};
-ghost use Rattle.e57_rows.specs.Rows.{asked_of};
-ghost use Rattle.e57_rows.specs.Putting.{PutsRows, FailsRows};
+ghost use Rattle.e57_rows.specs.Putting.{slice_of, PutsRows, FailsRows};
 
 use e57_base::{RunFault, Sink, Source};
 use e57_layout::{Field, Fixed, Section};
@@ -43,12 +42,10 @@ pub fn put_rows<S: Source, O: Sink>(
     requires left { from + count ≤ section.now.count }
     ensures length { pages.new.length ≡ pages.old.length }
     ensures header { pages.new.header ≡ pages.old.header }
-    ensures rows { let a = record { section = section.now; fixed = fixed; asked = asked_of fields.now asked.now; from = from; count = count } in MatchResult result
+    ensures rows { let a = slice_of section.now fixed fields.now asked.now from count in MatchResult result
         (λ _. PutsRows a (S.view pages.old.source) (S.view pages.new.source) (O.view out.old) (O.view out.new))
         (λ fault. FailsRows a (S.view pages.old.source) (S.view pages.new.source) (O.view out.old) (O.view out.new) fault) }
 {
     let _size = pages.logical_len();
-    let _given = (alloc, section, fixed, fields, asked, from, count);
-    let _out = out;
     Err(RunFault::Memory)
 }
