@@ -1,3 +1,4 @@
 pub mod Cells
+pub mod Writing
 pub mod Rows
 pub mod Putting

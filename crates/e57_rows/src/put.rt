@@ -9,6 +9,8 @@ ghost use Rattle.e57_section.specs.Opening.{LiesIn};
 ghost use Rattle.e57_ahead.specs.Counting.{IsWidth};
 ghost use Rattle.e57_rows.specs.Putting.{slice_of, PutsRows, FailsRows};
 
+use crate::blocks::{MOST, fill_blocks, open_blocks};
+use crate::text::rows_of;
 use e57_base::{RunFault, Sink, Source};
 use e57_layout::{Field, Fixed, Section};
 use e57_page::Pages;
@@ -47,5 +49,30 @@ pub fn put_rows<S: Source, O: Sink>(
         (λ fault. FailsRows a (S.view pages.old.source) (S.view pages.new.source) (O.view out.old) (O.view out.new) fault) }
 {
     let _size = pages.logical_len();
-    Err(RunFault::Memory)
+    let mut blocks = open_blocks(alloc, section, fixed, fields, asked)?;
+    let mut text = Vec::new(alloc);
+    let until = from + count;
+    let mut at = from;
+    while at < until {
+        let n = fill_blocks(section, fixed, &mut blocks, pages, at, run_length(until - at))?;
+        text = rows_of(&blocks, at, n, text)?;
+        match out.put(&text) {
+            Ok(()) => at += n as u64,
+            Err(_) => return Err(RunFault::Out),
+        }
+    }
+    Ok(())
+}
+
+/// How many of the records that are left are looked at at a time.
+fn run_length(left: u64) -> usize
+    requires { 0 < left }
+    ensures some { 0 < result }
+    ensures few { result ≤ left }
+{
+    if left < MOST as u64 {
+        left as usize
+    } else {
+        MOST
+    }
 }
