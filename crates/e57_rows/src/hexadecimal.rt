@@ -1,6 +1,6 @@
 //! Words in hexadecimal.
 
-ghost use Rattle.std.specs.Prelude.{◌≡◌, ◌/◌, ◌%◌, ◌^◌};
+ghost use Rattle.std.specs.Prelude.{◌≡◌, ◌/◌, ◌%◌, ◌^◌, ◌<◌};
 ghost use Rattle.e57_rows.specs.Cells.{hex, hex_digit};
 
 /// The digits of the numbers below 16.

@@ -1,10 +1,11 @@
 //! The row of the fields' paths.
 
-ghost use Rattle.std.specs.Prelude.{◌≡◌, ◌<◌, length, IfOk};
+ghost use Rattle.std.specs.Prelude.{◌≡◌, ◌<◌, ℕ, List, [], Option, length, IfOk, OnOk};
 ghost use Rattle.std.specs.List.{AllByRecursion};
 ghost use Rattle.e57_rows.specs.Rows.{heading_text};
+ghost use Rattle.e57_rows.specs.Writing.{AtRow};
 
-use crate::cell::write_text;
+use crate::cell::{end_row, write_text};
 use csv::{Error, Writer};
 use e57_layout::Field;
 use std::alloc::{AllocError, Global};
@@ -33,9 +34,10 @@ fn write_paths<W: Write + Drop>(
     asked: &[u16],
 ) -> Result<(), Error>
     requires { AllByRecursion (λ f. f < length fields.now) asked.now }
+    ensures { (base : Option (List ℕ)) → AtRow W.contents base [] writer.old → OnOk result (AtRow W.contents base (heading_text fields.now asked.now) writer.new) }
 {
     for k in 0..asked.len() {
         write_text(writer, fields[asked[k] as usize].path.as_slice())?;
     }
-    writer.end_record()
+    end_row(writer)
 }
