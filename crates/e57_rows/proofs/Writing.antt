@@ -1,6 +1,6 @@
 -- A row written cell by cell, and rows one after another.
 use Rattle.std.specs.Prelude.{◌≡◌, ◌≢◌, ℕ, ◌+◌, ◌-◌, ◌^◌, ◌<◌, ◌==◌, ◌&&◌, ◌||◌, not, min, Bool, true, false, List, [], ◌∷◌, ◌++◌, length, Option, Some, None, OnOk, Result, Ok, Err}
-use Rattle.std.specs.Io.KnownBytes.{Appends}
+use Rattle.std.specs.Io.KnownBytes.{Appends, Keeps}
 use Rattle.std.proofs.Common.{refl, sym, subst, ap, ◌∙◌, arith, length-append}
 use Rattle.csv.specs.declared.writer.QuoteStyle.TheVariants as style
 use Rattle.csv.specs.declared.writer.WriterBuilder.{WriterBuilder}
@@ -76,3 +76,30 @@ rows_more contents base rows row old new first next = record {
   count = next.count;
   clean = next.clean;
 }
+
+-- the first row begins
+pub row_first : {W : Type 0} (contents : W → Option (List ℕ)) (base : Option (List ℕ)) (writer : Writer W) → AtRow contents base [] writer → InRow contents base [] writer
+unfolding is_blank
+row_first contents base writer at_row = record {
+  setup = at_row.setup;
+  text = at_row.text;
+  count = at_row.count;
+  blank = rw at_row.clean refl;
+}
+
+-- a new writer
+pub rows_none : {W : Type 0} (contents : W → Option (List ℕ)) (writer : Writer W) → writer_setup writer ≡ default_writer → fields_written writer ≡ 0 → has_written writer ≡ false → AtRow contents (text_written contents writer) [] writer
+rows_none contents writer setup count clean = record { setup = setup; text = appends-none (text_written contents writer); count = count; clean = clean }
+
+kept_text : (written : Option (List ℕ)) (text rows : List ℕ) → Appends (Some []) written rows → Keeps written (Some text) → text ≡ rows
+kept_text None text rows appends keeps = absurd appends
+kept_text (Some xs) text rows appends keeps = keeps ∙ appends
+
+-- the bytes of a new writer into which whole rows were written
+pub whole_text : {W : Type 0} (contents : W → Option (List ℕ)) (first last : Writer W) (text rows : List ℕ)
+    → writer_setup first ≡ default_writer → fields_written first ≡ 0 → has_written first ≡ false → text_written contents first ≡ Some []
+    → ((base : Option (List ℕ)) → AtRow contents base [] first → AtRow contents base rows last)
+    → Keeps (text_written contents last) (Some text) → text ≡ rows
+whole_text contents first last text rows setup count clean none wrote keeps =
+    let at_row = wrote (Some []) (subst (λ (base : Option (List ℕ)). AtRow contents base [] first) none (rows_none contents first setup count clean)) in
+    kept_text (text_written contents last) text rows at_row.text keeps
