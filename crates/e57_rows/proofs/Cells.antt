@@ -25,13 +25,13 @@ few_cells f xs k few =
 pub all_cells : {W X : Type 0} (contents : W → Option (List ℕ)) (base : Option (List ℕ)) (f : X → List ℕ) (xs : List X) (k : ℕ) (writer : Writer W) → length xs ≤ k → InRow contents base (map f (take k xs)) writer → InRow contents base (map f xs) writer
 all_cells contents base f xs k writer past row = rw (take_all k xs past) at row
 
-pub path_more : {W : Type 0} (contents : W → Option (List ℕ)) (base : Option (List ℕ)) (fields : List Field) (asked : List ℕ) (k d : ℕ) (field : Field) (path : List ℕ) (writer : Writer W)
-    → k < length asked → AllByRecursion (λ f. f < length fields) asked → field ≡ get_or fields (get_or asked k 0) field → path ≡ field.path
+pub path_more : {W : Type 0} (contents : W → Option (List ℕ)) (base : Option (List ℕ)) (fields : List Field) (asked : List ℕ) (k : ℕ) (field : Field) (path : List ℕ) (writer : Writer W)
+    → k < length asked → AllByRecursion (λ f. f < length fields) asked → path ≡ (get_or fields (get_or asked k 0) field).path
     → InRow contents base (map (λ (f : ℕ). (field_at fields f).path) (take k asked) ++ path ∷ []) writer → InRow contents base (map (λ (f : ℕ). (field_at fields f).path) (take (k + 1) asked)) writer
-path_more contents base fields asked k d field path writer below are is of_it row =
+path_more contents base fields asked k field path writer below are is row =
     let there = all_at (λ f. f < length fields) asked k 0 below are in
-    let same : field ≡ field_at fields (get_or asked k 0) = is ∙ get_or_default fields (get_or asked k 0) field no_field there in
-    let text : path ≡ (field_at fields (get_or asked k 0)).path = of_it ∙ ap (λ (x : Field). x.path) same in
+    let same : get_or fields (get_or asked k 0) field ≡ field_at fields (get_or asked k 0) = get_or_default fields (get_or asked k 0) field no_field there in
+    let text : path ≡ (field_at fields (get_or asked k 0)).path = is ∙ ap (λ (x : Field). x.path) same in
     let cells = map_more (λ (f : ℕ). (field_at fields f).path) asked k 0 below in
     rw cells (subst (λ (t : List ℕ). InRow contents base (map (λ (f : ℕ). (field_at fields f).path) (take k asked) ++ t ∷ []) writer) text row)
 

@@ -13,7 +13,7 @@ loop-k-preserved g c = λ base at_row.
     let asked = c.args.asked.now in
     let k = c.loop-k.k in
     let fits : c.loop-k.k + 1 < 2 ^ 64 = search rules in
-    path_more g.W.Write.contents base fields asked k 0 c.index-fields-asked.result c.as_slice.result.now c.write_text.new.writer c.loop-k-test.true c.requires c.index-fields-asked.is c.as_slice.ensures
+    path_more g.W.Write.contents base fields asked k c.index-fields-asked.result c.as_slice.result.now c.write_text.new.writer c.loop-k-test.true c.requires c.as_slice.ensures
     (c.in_ok-write_text.ensures base (map (λ (f : ℕ). (field_at fields f).path) (take k asked)) (few_cells (λ (f : ℕ). (field_at fields f).path) asked k fits) (c.loop-k.invariant base at_row))
 
 pub returns : goal.returns
