@@ -104,6 +104,13 @@ abbrev pub IsBehind : Option ℕ → ℕ → ℕ → Option Fault → Type 0
 IsBehind None first count fault = (count ≡ 0) ⊎ IsSome fault
 IsBehind (Some i) first count fault = (fault ≡ None) × (i ≡ first + count)
 
+-- an item is of the field's kind; a word has the field's width
+abbrev pub IsOfKind : ItemKind → Item → Type 0
+IsOfKind kind (an_item.Whole z) = AreWhole kind
+IsOfKind kind (an_item.Word32 n) = kind ≡ words 32
+IsOfKind kind (an_item.Word64 n) = kind ≡ words 64
+IsOfKind kind (an_item.Text bytes) = kind ≡ strings
+
 abbrev pub IsKnown : Option Fault → Type 0
 IsKnown fault = IfSome fault (λ found. is_column_kind found.kind ≡ true)
 

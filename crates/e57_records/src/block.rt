@@ -8,7 +8,7 @@ ghost use Rattle.e57_section.specs.Opening.{LiesIn};
 ghost use Rattle.e57_ahead.specs.Counting.{IsWidth};
 ghost use Rattle.e57_texts.specs.Reading.{begin_of, end_of, text_of};
 ghost use Rattle.e57_column.specs.Column.{kind_of};
-ghost use Rattle.e57_records.specs.Block.{item_of, has_record, item_value, IsKept, IsKnown};
+ghost use Rattle.e57_records.specs.Block.{item_of, has_record, item_value, IsKept, IsOfKind, IsKnown};
 ghost use Rattle.e57_records.specs.Filling.{OpensBlock, IsNextOf, Fills, FillsNot, most_places};
 
 use crate::buffer::{Buffer, Texts, new_buffer};
@@ -159,10 +159,12 @@ impl FieldBlock {
         self.first <= i && i - self.first < self.count as u64
     }
 
-    /// The item of record `i`, which is held. An integer is within the limits of its field, and a string has at most 2^24 bytes.
+    /// The item of record `i`, which is held. An integer is within the limits of its field, a word has its field's width, and a
+    /// string has at most 2^24 bytes.
     pub fn item(&self, i: u64) -> Item<'_>
         requires { has_record self.now i ≡ true }
         ensures item { item_value result ≡ item_of self.now (i - self.now.first) }
+        ensures of_kind { IsOfKind (kind_of self.now.column.items) result }
         ensures kept { IsKept (kind_of self.now.column.items) (item_of self.now (i - self.now.first)) }
     {
         let k = (i - self.first) as usize;

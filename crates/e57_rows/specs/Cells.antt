@@ -2,6 +2,8 @@
 use Rattle.std.specs.Prelude.{ℕ, zero, suc, ◌+◌, ◌/◌, ◌%◌, ◌^◌, nat_lt, if◌then◌else◌, List, [], ◌∷◌}
 use Rattle.std.specs.Fmt.{signed_decimal}
 use Rattle.csv.specs.Writing.{default_writer, row_text}
+use Rattle.e57_records.specs.declared.block.Item.{Item}
+use Rattle.e57_records.specs.declared.block.Item.TheVariants as an_item
 use Rattle.e57_layout.specs.Values.{ItemKind, integers, words, strings, Value, whole, word, octets}
 
 -- the hexadecimal digit of a number below 16, in lower case
@@ -24,6 +26,13 @@ abbrev pub cell : ItemKind → Value → List ℕ
 cell kind (whole z) = signed_decimal z
 cell kind (word n) = hex (digits_of kind) n
 cell kind (octets bytes) = bytes
+
+-- the cell of an item
+abbrev pub item_text : Item → List ℕ
+item_text (an_item.Whole z) = signed_decimal z
+item_text (an_item.Word32 n) = hex 8 n
+item_text (an_item.Word64 n) = hex 16 n
+item_text (an_item.Text bytes) = bytes.now
 
 -- a row of these cells: separated by commas, in quotes where they have to be, with a line feed at the end
 abbrev pub csv_row : List (List ℕ) → List ℕ

@@ -3,15 +3,17 @@ use Rattle.std.specs.Prelude.{◌≡◌, ℕ, ◌+◌, ◌<◌, ◌≤◌, true,
 use Rattle.e57_base.specs.Count.{Rose}
 use Rattle.e57_base.specs.Source.{SourceView}
 use Rattle.e57_base.specs.Sink.{SinkView, Grows, GrowsByFront}
+use Rattle.e57_base.specs.declared.fault.Fault.{Fault}
 use Rattle.e57_base.specs.declared.fault.RunFault.{RunFault}
 use Rattle.e57_base.specs.declared.fault.RunFault.TheVariants.{Refused, Source, Out, Memory, Ask}
+use Rattle.e57_layout.specs.declared.field.Field.{Field}
 use Rattle.e57_layout.specs.declared.field.Fixed.{Fixed}
 use Rattle.e57_layout.specs.declared.section.Section.{Section}
 use Rattle.e57_sections.specs.Cloud.{Leaf}
 use Rattle.e57_sections.specs.Met.{OnItem}
 use Rattle.e57_stream.specs.Asking.{AsksMet}
 use Rattle.e57_column.specs.Finding.{is_column_kind}
-use Rattle.e57_rows.specs.Rows.{section_row, rows_text, rows_fault}
+use Rattle.e57_rows.specs.Rows.{asked_of, section_row, rows_text, rows_fault}
 
 -- the asked fields of some records of a section, one or more: the first of them, and how many
 pub record Slice : Type 0 where
@@ -20,6 +22,10 @@ pub record Slice : Type 0 where
   pub asked : List (ℕ × Leaf)
   pub from : ℕ
   pub count : ℕ
+
+-- that of the asked fields of a cloud, by their numbers
+abbrev pub slice_of : Section → Option Fixed → List Field → List ℕ → ℕ → ℕ → Slice
+slice_of s fixed fields asked from count = record { section = s; fixed = fixed; asked = asked_of fields asked; from = from; count = count }
 
 -- the rows of a slice in a file, up to the first record with a fault
 abbrev pub slice_text : Slice → List ℕ → List ℕ

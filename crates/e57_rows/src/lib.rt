@@ -2,8 +2,15 @@
 //! after another (ASTM E2807, compressed vector binary sections).
 #![tactic(auto)]
 
-mod heading;
+mod blocks;
+mod cell;
+mod hexadecimal;
+mod paths;
 mod put;
+mod text;
 
-pub use heading::heading;
+pub use paths::heading;
 pub use put::put_rows;
+
+#[cfg(test)]
+mod tests;

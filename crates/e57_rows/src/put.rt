@@ -7,9 +7,10 @@ ghost use Rattle.e57_page.specs.Place.{payload_length};
 ghost use Rattle.e57_layout.specs.Values.{IsValidField};
 ghost use Rattle.e57_section.specs.Opening.{LiesIn};
 ghost use Rattle.e57_ahead.specs.Counting.{IsWidth};
-ghost use Rattle.e57_rows.specs.Rows.{asked_of};
-ghost use Rattle.e57_rows.specs.Putting.{PutsRows, FailsRows};
+ghost use Rattle.e57_rows.specs.Putting.{slice_of, PutsRows, FailsRows};
 
+use crate::blocks::{MOST, fill_blocks, open_blocks};
+use crate::text::rows_of;
 use e57_base::{RunFault, Sink, Source};
 use e57_layout::{Field, Fixed, Section};
 use e57_page::Pages;
@@ -43,12 +44,35 @@ pub fn put_rows<S: Source, O: Sink>(
     requires left { from + count ≤ section.now.count }
     ensures length { pages.new.length ≡ pages.old.length }
     ensures header { pages.new.header ≡ pages.old.header }
-    ensures rows { let a = record { section = section.now; fixed = fixed; asked = asked_of fields.now asked.now; from = from; count = count } in MatchResult result
+    ensures rows { let a = slice_of section.now fixed fields.now asked.now from count in MatchResult result
         (λ _. PutsRows a (S.view pages.old.source) (S.view pages.new.source) (O.view out.old) (O.view out.new))
         (λ fault. FailsRows a (S.view pages.old.source) (S.view pages.new.source) (O.view out.old) (O.view out.new) fault) }
 {
     let _size = pages.logical_len();
-    let _given = (alloc, section, fixed, fields, asked, from, count);
-    let _out = out;
-    Err(RunFault::Memory)
+    let mut blocks = open_blocks(alloc, section, fixed, fields, asked)?;
+    let mut text = Vec::new(alloc);
+    let until = from + count;
+    let mut at = from;
+    while at < until {
+        let n = fill_blocks(section, fixed, &mut blocks, pages, at, run_length(until - at))?;
+        text = rows_of(&blocks, at, n, text)?;
+        match out.put(&text) {
+            Ok(()) => at += n as u64,
+            Err(_) => return Err(RunFault::Out),
+        }
+    }
+    Ok(())
+}
+
+/// How many of the records that are left are looked at at a time.
+fn run_length(left: u64) -> usize
+    requires { 0 < left }
+    ensures some { 0 < result }
+    ensures few { result ≤ left }
+{
+    if left < MOST as u64 {
+        left as usize
+    } else {
+        MOST
+    }
 }

@@ -1,0 +1,57 @@
+-- Blocks that hold records, and the rows of these.
+use Rattle.std.specs.Prelude.{◌≡◌, ℕ, zero, suc, ◌+◌, ◌-◌, ◌<◌, ◌≤◌, true, List, [], ◌∷◌, ◌++◌, map, length, take, get_or}
+use Rattle.std.specs.List.{AllByRecursion}
+use Rattle.std.proofs.Common.{refl, sym, subst, ap, ◌∙◌, arith, add-zero, append_assoc}
+use Rattle.std.proofs.lemmas.List.{append-nil, map-append, take_more}
+use Rattle.std.proofs.lemmas.Bool.Decides.{nat_tests}
+use Rattle.e57_layout.specs.Values.{ItemKind}
+use Rattle.e57_records.specs.declared.block.Item.{Item}
+use Rattle.e57_records.specs.declared.block.Item.TheVariants as an_item
+use Rattle.e57_records.specs.Block.{Block, has_record, item_value, IsOfKind}
+use Rattle.e57_rows.specs.Cells.{cell, item_text}
+use Rattle.e57_rows.specs.Blocks.{HasRecords, held_row, held_rows}
+
+-- ---- lists
+
+pub all_map : {X : Type 0} (P Q : X → Type 0) (xs : List X) → ((x : X) → P x → Q x) → AllByRecursion P xs → AllByRecursion Q xs
+all_map P Q [] each all = tt
+all_map P Q (x ∷ xs) each all = (each x all.0, all_map P Q xs each all.1)
+
+pub all_at : {X : Type 0} (P : X → Type 0) (xs : List X) (k : ℕ) (d : X) → k < length xs → AllByRecursion P xs → P (get_or xs k d)
+all_at P [] k d below all = absurd (omega arith)
+all_at P (x ∷ xs) zero d below all = all.0
+all_at P (x ∷ xs) (suc k) d below all = all_at P xs k d (omega arith) all.1
+
+-- one more is looked at
+pub map_more : {X Y : Type 0} (f : X → Y) (xs : List X) (k : ℕ) (d : X) → k < length xs → map f (take (k + 1) xs) ≡ map f (take k xs) ++ f (get_or xs k d) ∷ []
+map_more f xs k d below = ap (map f) (take_more xs k d below) ∙ map-append f (take k xs) (get_or xs k d ∷ [])
+
+-- ---- cells
+
+-- an item's text is the cell of its kind
+pub text_cell : (kind : ItemKind) (item : Item) → IsOfKind kind item → item_text item ≡ cell kind (item_value item)
+text_cell kind (an_item.Whole z) is = refl
+text_cell kind (an_item.Word32 n) is = rw is refl
+text_cell kind (an_item.Word64 n) is = rw is refl
+text_cell kind (an_item.Text bytes) is = refl
+
+-- ---- records that are held
+
+pub has_of : (i : ℕ) (b : Block) → HasRecords i 1 b → has_record b i ≡ true
+has_of i b has = let low = has.0 in let high = has.1 in grind (arith, nat_tests)
+
+pub records_of : (i n k : ℕ) (b : Block) → k < n → HasRecords i n b → HasRecords (i + k) 1 b
+records_of i n k b below has = let low = has.0 in let high = has.1 in (omega (arith, low), omega (arith, high, below))
+
+pub all_records : (i n k : ℕ) (blocks : List Block) → k < n → AllByRecursion (HasRecords i n) blocks → AllByRecursion (HasRecords (i + k) 1) blocks
+all_records i n k blocks below all = all_map (HasRecords i n) (HasRecords (i + k) 1) blocks (λ b has. records_of i n k b below has) all
+
+-- ---- rows
+
+pub rows_last : (blocks : List Block) (i k : ℕ) → held_rows blocks i (k + 1) ≡ held_rows blocks i k ++ held_row blocks (i + k)
+unfolding held_rows
+rows_last blocks i zero = rw add-zero (append-nil (held_row blocks i))
+rows_last blocks i (suc k) =
+    let place : i + suc k ≡ i + 1 + k = omega arith in
+    let size : suc k + 1 ≡ suc (k + 1) = omega arith in
+    rw (size, place) (ap (λ (t : List ℕ). held_row blocks i ++ t) (rows_last blocks (i + 1) k) ∙ sym (append_assoc (held_row blocks i) (held_rows blocks (i + 1) k) (held_row blocks (i + 1 + k))))

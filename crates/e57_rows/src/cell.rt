@@ -1,0 +1,43 @@
+//! Cells of a row.
+
+ghost use Rattle.std.specs.Prelude.{◌+◌, ◌^◌, ◌<◌, ◌++◌, ◌∷◌, ℕ, List, [], Option, length, OnOk};
+ghost use Rattle.e57_rows.specs.Cells.{csv_row, item_text};
+ghost use Rattle.e57_rows.specs.Writing.{AtRow, InRow};
+
+use crate::hexadecimal::{digits32, digits64};
+use csv::{Error, Writer};
+use e57_records::Item;
+use itoa::Buffer;
+use std::io::Write;
+
+/// Writes a text as the next cell of a row.
+#[inline]
+pub fn write_text<W: Write + Drop>(writer: &mut Writer<W>, text: &[u8]) -> Result<(), Error>
+    ensures { (base : Option (List ℕ)) → (cells : List (List ℕ)) → length cells + 1 < 2 ^ 64 → InRow W.contents base cells writer.old → OnOk result (InRow W.contents base (cells ++ text.now ∷ []) writer.new) }
+{
+    writer.write_field(text)
+}
+
+/// Writes an item as the next cell of a row.
+#[inline]
+pub fn write_item<W: Write + Drop>(writer: &mut Writer<W>, item: Item<'_>) -> Result<(), Error>
+    ensures { (base : Option (List ℕ)) → (cells : List (List ℕ)) → length cells + 1 < 2 ^ 64 → InRow W.contents base cells writer.old → OnOk result (InRow W.contents base (cells ++ item_text item.entry ∷ []) writer.new) }
+{
+    match item {
+        Item::Whole(number) => {
+            let mut buffer = Buffer::new();
+            write_text(writer, buffer.format(number).as_bytes())
+        }
+        Item::Word32(word) => write_text(writer, digits32(word).as_slice()),
+        Item::Word64(word) => write_text(writer, digits64(word).as_slice()),
+        Item::Text(bytes) => write_text(writer, bytes),
+    }
+}
+
+/// Ends a row.
+#[inline]
+pub fn end_row<W: Write + Drop>(writer: &mut Writer<W>) -> Result<(), Error>
+    ensures { (base : Option (List ℕ)) → (cells : List (List ℕ)) → InRow W.contents base cells writer.old → OnOk result (AtRow W.contents base (csv_row cells) writer.new) }
+{
+    writer.end_record()
+}
