@@ -1,8 +1,8 @@
 -- The rows of a slice, put run after run.
-use Rattle.std.specs.Prelude.{◌≡◌, ℕ, zero, suc, ◌+◌, ◌-◌, ◌<◌, ◌≤◌, true, List, [], ◌++◌, map, length, take, Option, Some, None, IfSome, Ok, Err}
+use Rattle.std.specs.Prelude.{◌≡◌, ℕ, suc, ◌+◌, ◌-◌, ◌<◌, ◌≤◌, List, [], ◌++◌, length, take, Option, Some, None, IfSome, Err}
 use Rattle.std.specs.Option.{option_map}
 use Rattle.std.specs.List.{AllByRecursion}
-use Rattle.std.proofs.Common.{refl, sym, subst, ap, ◌∙◌, arith, add-zero, append_assoc, length-append, inr}
+use Rattle.std.proofs.Common.{refl, sym, subst, ap, ◌∙◌, arith, append_assoc, length-append, inr}
 use Rattle.std.proofs.Math.Seq.{take-append-add}
 use Rattle.std.proofs.lemmas.List.{append-nil, take-append-le, take_all}
 use Rattle.e57_base.specs.Count.{Rose, rose_before}
@@ -13,17 +13,14 @@ use Rattle.e57_base.specs.Fault.{open_as_run}
 use Rattle.e57_base.specs.declared.fault.Fault.{Fault}
 use Rattle.e57_base.specs.declared.fault.OpenFault.{OpenFault}
 use Rattle.e57_base.specs.declared.fault.OpenFault.TheVariants as lost
-use Rattle.e57_base.specs.declared.fault.RunFault.{RunFault}
-use Rattle.e57_base.specs.declared.fault.RunFault.TheVariants.{Refused, Source, Out, Memory}
-use Rattle.e57_layout.specs.declared.field.Fixed.{Fixed}
-use Rattle.e57_layout.specs.declared.section.Section.{Section}
+use Rattle.e57_base.specs.declared.fault.RunFault.TheVariants.{Out, Memory}
 use Rattle.e57_sections.specs.Cloud.{Leaf}
 use Rattle.e57_stream.specs.Asking.{AsksMet}
 use Rattle.e57_stream.specs.AskingLaws.{asks_met_none, asks_met_on, asks_met_map}
 use Rattle.e57_records.specs.Block.{Block, Holds}
 use Rattle.e57_rows.specs.Rows.{section_row, rows_text, rows_fault}
-use Rattle.e57_rows.specs.Putting.{Slice, slice_text, slice_fault, OnSlice, PutsText, PutsFront, PutsRows, IsRowsCause, FailsRows}
-use Rattle.e57_rows.specs.Blocks.{field_of, AreBlocks, IsReady, HasRecords, AreOfFile, blocks_slice, held_rows, FillsBlocks, IsBlocksCause, FillsNoBlocks}
+use Rattle.e57_rows.specs.Putting.{Slice, slice_text, slice_fault, OnSlice, PutsFront, PutsRows, IsRowsCause, FailsRows}
+use Rattle.e57_rows.specs.Blocks.{AreBlocks, IsReady, HasRecords, AreOfFile, blocks_slice, held_rows, FillsBlocks, IsBlocksCause, FillsNoBlocks}
 use Rattle.e57_rows.proofs.Filling.{all_told}
 use Rattle.e57_rows.proofs.Held.{all_map}
 use Rattle.e57_rows.proofs.Records.{AreRows, rows_none, rows_both, rows_on, rows_sound, rows_stop}
@@ -68,9 +65,9 @@ part_asks a i n old new low high asks =
     asks_met_map (OnSlice (part a i n)) (OnSlice a) old new
     (all_told (λ file. (p : ℕ) → OnSlice (part a i n) file p → OnSlice a file p) old.held
     (λ file p on.
-        let after = on.after in
-        let before = on.before in
-        record { f = on.f; leaf = on.leaf; i = on.i; asks = on.asks; after = omega (arith, after, low); before = omega (arith, before, high); way = on.way })) asks
+    let after = on.after in
+    let before = on.before in
+    record { f = on.f; leaf = on.leaf; i = on.i; asks = on.asks; after = omega (arith, after, low); before = omega (arith, before, high); way = on.way })) asks
 
 -- ---- the first rows of a slice
 
@@ -97,9 +94,9 @@ run_rows : (a : Slice) (n want m i : ℕ) (old mid new : SourceView) (blocks : L
 run_rows a n want m i old mid new blocks first text place same rows fills is =
     told_both (λ file. rows_of a file a.from n first) (λ file. AllByRecursion (Holds file) blocks) (λ file. rows_of a file a.from (n + m) (first ++ text)) old.held
     (λ file before holds.
-        let next = rows_sound file a.section a.fixed a.asked blocks i m fills.are holds fills.have in
-        let here : rows_of a file (a.from + n) m text = subst (λ (t : List ℕ). rows_of a file (a.from + n) m t) (sym is) (subst (λ (k : ℕ). rows_of a file k m (held_rows blocks i m)) place next) in
-        rows_both (section_row file a.section a.fixed a.asked) a.from n m first text before here) rows
+    let next = rows_sound file a.section a.fixed a.asked blocks i m fills.are holds fills.have in
+    let here : rows_of a file (a.from + n) m text = subst (λ (t : List ℕ). rows_of a file (a.from + n) m t) (sym is) (subst (λ (k : ℕ). rows_of a file k m (held_rows blocks i m)) place next) in
+    rows_both (section_row file a.section a.fixed a.asked) a.from n m first text before here) rows
     (told_here (λ file. AllByRecursion (Holds file) blocks) mid.held old.held (sym same) fills.holds)
 
 -- one run more
@@ -163,9 +160,9 @@ fails_fill a n want i old mid new out out' fault some place within first fails =
     stops found wrong =
         told_both (λ file. rows_of a file a.from n first.text) (λ file. section_row file a.section a.fixed a.asked i ≡ Err found) (λ file. (slice_fault a file ≡ Some found) × (first.text ≡ slice_text a file)) old.held
         (λ file rows is.
-            let row = section_row file a.section a.fixed a.asked in
-            let stop = rows_stop row a.from n (a.count - n - 1) first.text found rows (subst (λ (k : ℕ). row k ≡ Err found) place is) in
-            subst (λ (k : ℕ). (rows_fault row a.from k ≡ Some found) × (first.text ≡ rows_text row a.from k)) left stop) first.rows
+        let row = section_row file a.section a.fixed a.asked in
+        let stop = rows_stop row a.from n (a.count - n - 1) first.text found rows (subst (λ (k : ℕ). row k ≡ Err found) place is) in
+        subst (λ (k : ℕ). (rows_fault row a.from k ≡ Some found) × (first.text ≡ rows_text row a.from k)) left stop) first.rows
         (told_here (λ file. section_row file a.section a.fixed a.asked i ≡ Err found) mid.held old.held (sym first.met.asks.same.held) wrong)
 
     by_cause : (fault : OpenFault) → IsBlocksCause (part a i want) mid fault new → IsRowsCause a old new out out' (open_as_run fault)
@@ -205,6 +202,10 @@ fails_put a n want m i old mid new out out' out'' blocks text place within first
 pub ready_on : (i n : ℕ) (blocks : List Block) → AllByRecursion (HasRecords i n) blocks → AllByRecursion (IsReady (i + n)) blocks
 ready_on i n blocks have = all_map (HasRecords i n) (IsReady (i + n)) blocks (λ b has. let low = has.0 in let high = has.1 in inr (omega (arith, low), omega (arith, high))) have
 
+-- they hold items of the file as long as it is held
+pub holds_later : (old new : SourceView) (blocks : List Block) → new.held ≡ old.held → AreOfFile old blocks → AreOfFile new blocks
+holds_later old new blocks same holds = told_here (λ file. AllByRecursion (Holds file) blocks) old.held new.held same holds
+
 -- what is filled of the blocks of these fields
 pub fills_part : (a : Slice) (blocks after : List Block) (i want n : ℕ) (old new : SourceView) → AreBlocks a.section a.fixed a.asked blocks → FillsBlocks (blocks_slice a.section a.fixed blocks i want) old n new after → FillsBlocks (part a i want) old n new after
 fills_part a blocks after i want n old new are fills =
@@ -213,3 +214,27 @@ fills_part a blocks after i want n old new are fills =
 pub fills_no_part : (a : Slice) (blocks : List Block) (i want : ℕ) (fault : OpenFault) (old new : SourceView) → AreBlocks a.section a.fixed a.asked blocks → FillsNoBlocks (blocks_slice a.section a.fixed blocks i want) old fault new → FillsNoBlocks (part a i want) old fault new
 fills_no_part a blocks i want fault old new are fills =
     subst (λ (asked : List (ℕ × Leaf)). FillsNoBlocks (record { section = a.section; fixed = a.fixed; asked = asked; from = i; count = want }) old fault new) are.fields fills
+
+-- ---- a run, as the loop has it: the records before record i were put
+
+pub run_on : (a : Slice) (i want m : ℕ) (old mid new : SourceView) (out out' out'' : SinkView) (blocks after : List Block) (text : List ℕ) → a.from ≤ i → i + want ≤ a.from + a.count → AreBlocks a.section a.fixed a.asked blocks → PutsTo a (i - a.from) old mid out out'
+    → FillsBlocks (blocks_slice a.section a.fixed blocks i want) mid m new after → text ≡ held_rows after i m → Grows out'.written text out''.written → out'.faults ≤ out''.faults → PutsTo a (i + m - a.from) old new out out''
+run_on a i want m old mid new out out' out'' blocks after text low high are first fills is wrote counts =
+    let n : i - a.from + m ≡ i + m - a.from = omega (arith, low) in
+    subst (λ (k : ℕ). PutsTo a k old new out out'') n
+    (puts_on a (i - a.from) want m i old mid new out out' out'' after text (omega (arith, low)) (omega (arith, low, high)) first (fills_part a blocks after i want m mid new are fills) is wrote counts)
+
+pub run_not : (a : Slice) (i want : ℕ) (old mid new : SourceView) (out out' : SinkView) (blocks : List Block) (fault : OpenFault) → 0 < want → a.from ≤ i → i + want ≤ a.from + a.count → AreBlocks a.section a.fixed a.asked blocks → PutsTo a (i - a.from) old mid out out'
+    → FillsNoBlocks (blocks_slice a.section a.fixed blocks i want) mid fault new → FailsRows a old new out out' (open_as_run fault)
+run_not a i want old mid new out out' blocks fault some low high are first fails =
+    fails_fill a (i - a.from) want i old mid new out out' fault some (omega (arith, low)) (omega (arith, low, high)) first (fills_no_part a blocks i want fault mid new are fails)
+
+pub run_unwritten : (a : Slice) (i want m : ℕ) (old mid new : SourceView) (out out' : SinkView) (blocks after : List Block) → a.from ≤ i → i + want ≤ a.from + a.count → AreBlocks a.section a.fixed a.asked blocks → PutsTo a (i - a.from) old mid out out'
+    → FillsBlocks (blocks_slice a.section a.fixed blocks i want) mid m new after → FailsRows a old new out out' Memory
+run_unwritten a i want m old mid new out out' blocks after low high are first fills =
+    fails_text a (i - a.from) want m i old mid new out out' after (omega (arith, low)) (omega (arith, low, high)) first (fills_part a blocks after i want m mid new are fills)
+
+pub run_unput : (a : Slice) (i want m : ℕ) (old mid new : SourceView) (out out' out'' : SinkView) (blocks after : List Block) (text : List ℕ) → a.from ≤ i → i + want ≤ a.from + a.count → AreBlocks a.section a.fixed a.asked blocks → PutsTo a (i - a.from) old mid out out'
+    → FillsBlocks (blocks_slice a.section a.fixed blocks i want) mid m new after → text ≡ held_rows after i m → GrowsByFront out'.written text out''.written → Rose out'.faults out''.faults → FailsRows a old new out out'' Out
+run_unput a i want m old mid new out out' out'' blocks after text low high are first fills is front rose =
+    fails_put a (i - a.from) want m i old mid new out out' out'' after text (omega (arith, low)) (omega (arith, low, high)) first (fills_part a blocks after i want m mid new are fills) is front rose

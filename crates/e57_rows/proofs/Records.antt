@@ -1,5 +1,5 @@
 -- The row of a record that all blocks hold, and that of one with a fault; the rows of records one after another.
-use Rattle.std.specs.Prelude.{◌≡◌, ℕ, zero, suc, ◌+◌, ◌-◌, ◌<◌, ◌≤◌, List, [], ◌∷◌, ◌++◌, map, Option, Some, None, Result, Ok, Err}
+use Rattle.std.specs.Prelude.{◌≡◌, ℕ, zero, suc, ◌+◌, ◌-◌, ◌<◌, List, [], ◌∷◌, ◌++◌, map, Option, Some, None, Result, Ok, Err}
 use Rattle.std.specs.List.{AllByRecursion}
 use Rattle.std.proofs.Common.{refl, sym, subst, ap, ◌∙◌, arith, add-zero, zero-add, append_assoc}
 use Rattle.std.proofs.lemmas.List.{append-nil}
@@ -9,10 +9,10 @@ use Rattle.e57_layout.specs.declared.field.Fixed.{Fixed}
 use Rattle.e57_layout.specs.declared.section.Section.{Section}
 use Rattle.e57_sections.specs.Cloud.{Leaf}
 use Rattle.e57_sections.specs.PathItem.{and_then, item_of}
-use Rattle.e57_column.specs.Column.{kind_of, leaf_of, column_item}
+use Rattle.e57_column.specs.Column.{leaf_of, column_item}
 use Rattle.e57_records.specs.Block.{Block, item_of as held_item, Holds}
 use Rattle.e57_rows.specs.Cells.{cell, csv_row}
-use Rattle.e57_rows.specs.Rows.{cells_of, row_of, section_row, rows_text, rows_fault, text_before, fault_before}
+use Rattle.e57_rows.specs.Rows.{cells_of, section_row, rows_text, rows_fault, text_before, fault_before}
 use Rattle.e57_rows.specs.Blocks.{field_of, IsOf, AreBlocks, HasRecords, cell_at, held_row, held_rows}
 use Rattle.e57_rows.proofs.Held.{all_map}
 

@@ -1,8 +1,8 @@
 -- Blocks side by side, filled one after another.
-use Rattle.std.specs.Prelude.{◌≡◌, ℕ, zero, suc, ◌+◌, ◌-◌, ◌<◌, ◌≤◌, min, List, [], ◌∷◌, ◌++◌, map, length, take, drop, get_or, Option, Some, None, IfSome, Contains, Result, Ok, Err}
+use Rattle.std.specs.Prelude.{◌≡◌, ℕ, zero, suc, ◌+◌, ◌<◌, ◌≤◌, min, List, [], ◌∷◌, ◌++◌, map, length, take, drop, get_or, Option, IfSome, Contains, Err}
 use Rattle.std.specs.List.{AllByRecursion}
 use Rattle.std.proofs.Common.{set, refl, sym, subst, ap, ◌∙◌, arith}
-use Rattle.std.proofs.lemmas.List.{drop_more, drop-set-lt, get_or_default, get_or-map, length-map, map-append, take-append-drop, take_all, take_more, take_more_set}
+use Rattle.std.proofs.lemmas.List.{drop_more, drop-set-lt, get_or-map, length-map, map-append, take-append-drop, take_all, take_more_set}
 use Rattle.e57_base.specs.Count.{rose_before}
 use Rattle.e57_base.specs.Source.{SourceView}
 use Rattle.e57_base.specs.Told.{told_map, told_both, told_here}
@@ -20,7 +20,7 @@ use Rattle.e57_column.specs.Reading.{SameField, OnRecords, AsksRecords}
 use Rattle.e57_records.specs.Block.{Block, Holds}
 use Rattle.e57_rows.specs.Rows.{section_row}
 use Rattle.e57_rows.specs.Putting.{Slice, OnSlice}
-use Rattle.e57_rows.specs.Blocks.{field_of, IsOf, AreBlocks, IsReady, HasRecords, AreOfFile, KeepsBlock, FillsBlock, IsBlockCause, FillsNoBlock, blocks_slice, FillsBlocks, IsBlocksCause, FillsNoBlocks}
+use Rattle.e57_rows.specs.Blocks.{field_of, IsOf, AreBlocks, IsReady, HasRecords, AreOfFile, FillsBlock, IsBlockCause, FillsNoBlock, blocks_slice, FillsBlocks, IsBlocksCause, FillsNoBlocks}
 use Rattle.e57_rows.proofs.Held.{all_at, all_map}
 use Rattle.e57_rows.proofs.Records.{row_stop}
 
@@ -61,17 +61,17 @@ asks_slice a old new b is among holds asks =
     asks_met_map (λ file p. StandsIn file b.column → OnRecords file b.column a.from a.count p) (OnSlice a) old new
     (told_map (λ file. Holds file b) (λ file. (p : ℕ) → (StandsIn file b.column → OnRecords file b.column a.from a.count p) → OnSlice a file p) old.held
     (λ file held p on.
-        let one = on held.stands in
-        let way = subst (λ (s : Section). OnItem file s b.column.stream.fixed b.column.stream.field (leaf_of b.column) one.i p) is.in_section one.way in
-        record {
-          f = b.column.stream.field;
-          leaf = leaf_of b.column;
-          i = one.i;
-          asks = among;
-          after = one.after;
-          before = one.before;
-          way = subst (λ (x : Option Fixed). OnItem file a.section x b.column.stream.field (leaf_of b.column) one.i p) is.with_fixed way;
-        }) holds) asks
+    let one = on held.stands in
+    let way = subst (λ (s : Section). OnItem file s b.column.stream.fixed b.column.stream.field (leaf_of b.column) one.i p) is.in_section one.way in
+    record {
+      f = b.column.stream.field;
+      leaf = leaf_of b.column;
+      i = one.i;
+      asks = among;
+      after = one.after;
+      before = one.before;
+      way = subst (λ (x : Option Fixed). OnItem file a.section x b.column.stream.field (leaf_of b.column) one.i p) is.with_fixed way;
+    }) holds) asks
 
 -- a block's field is among those of all
 among_fields : (blocks : List Block) (j : ℕ) (d : Block) → j < length blocks → Contains (map field_of blocks) (field_of (get_or blocks j d))
@@ -166,11 +166,11 @@ row_wrong : (a : Slice) (file : List ℕ) (j n : ℕ) (blocks : List Block) (b d
     → AllByRecursion (Holds file) blocks → column_item file b.column a.from ≡ Err found → section_row file a.section a.fixed a.asked a.from ≡ Err found
 row_wrong a file j n blocks b d found below is some are have is_of holds wrong =
     let fields : map field_of (take j blocks) ++ field_of b ∷ map field_of (drop (j + 1) blocks) ≡ a.asked =
-        ap (λ (x : Block). map field_of (take j blocks) ++ field_of x ∷ map field_of (drop (j + 1) blocks)) is
-        ∙ sym (map-append field_of (take j blocks) (get_or blocks j d ∷ drop (j + 1) blocks))
-        ∙ ap (λ (xs : List Block). map field_of (take j blocks ++ xs)) (sym (drop_more blocks j d below))
-        ∙ ap (map field_of) (take-append-drop j blocks)
-        ∙ are.fields in
+    ap (λ (x : Block). map field_of (take j blocks) ++ field_of x ∷ map field_of (drop (j + 1) blocks)) is
+    ∙ sym (map-append field_of (take j blocks) (get_or blocks j d ∷ drop (j + 1) blocks))
+    ∙ ap (λ (xs : List Block). map field_of (take j blocks ++ xs)) (sym (drop_more blocks j d below))
+    ∙ ap (map field_of) (take-append-drop j blocks)
+    ∙ are.fields in
     subst (λ (asked : List (ℕ × Leaf)). section_row file a.section a.fixed asked a.from ≡ Err found) fields
     (row_stop file a.section a.fixed a.from (take j blocks) b (map field_of (drop (j + 1) blocks)) found
     (all_front (IsOf a.section a.fixed) j blocks are.all)

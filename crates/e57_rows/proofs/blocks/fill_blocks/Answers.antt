@@ -1,9 +1,7 @@
-use Rattle.std.proofs.Common.{◌∙◌, ◌*◌, ◌/◌, ◌+◌, ◌≤◌, get_or, refl, sym, subst, set, arith}
-use Rattle.e57_layout.specs.declared.section.Section.{Section}
-use Rattle.e57_section.specs.Opening.{LiesIn}
+use Rattle.std.proofs.Common.{◌∙◌, get_or, refl, set, arith}
 use Rattle.e57_rows.specs.Blocks.{FillsBlocks, FillsNoBlocks, blocks_slice}
 use Rattle.e57_rows.proofs.Filling.{by_error}
-use Rattle.e57_rows.proofs.Sides.{filled_all, filled_none, filled_not, filled_on, next_block}
+use Rattle.e57_rows.proofs.Sides.{filled_not, filled_on}
 use Rattle.e57_rows.proofs.blocks.fill_blocks.Goals as goal
 
 pub returns-in_err-have-clause-fills : goal.returns-in_err-have-clause-fills
