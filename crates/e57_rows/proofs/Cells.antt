@@ -1,7 +1,7 @@
 -- One cell more of a row.
 use Rattle.std.specs.Prelude.{◌≡◌, ℕ, ◌+◌, ◌-◌, ◌^◌, ◌<◌, ◌≤◌, List, [], ◌∷◌, ◌++◌, map, length, take, get_or, Option}
 use Rattle.std.specs.List.{AllByRecursion}
-use Rattle.std.proofs.Common.{refl, sym, subst, ap, ◌∙◌, arith, length-take}
+use Rattle.std.proofs.Common.{subst, ap, ◌∙◌, arith, length-take}
 use Rattle.std.proofs.lemmas.List.{get_or_default, length-map, take_all}
 use Rattle.csv.specs.declared.writer.Writer.{Writer}
 use Rattle.e57_layout.specs.declared.field.Field.{Field}

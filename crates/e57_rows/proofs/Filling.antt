@@ -1,9 +1,9 @@
 -- One block filled.
-use Rattle.std.specs.Prelude.{◌≡◌, ℕ, ◌+◌, ◌-◌, ◌<◌, ◌≤◌, ◌⊎◌, min, true, false, List, Option, Some, None, IfSome, IsErrAnd, Result, Ok, Err, MatchResult}
-use Rattle.std.proofs.Common.{refl, sym, subst, ap, ◌∙◌, arith, inl, inr}
+use Rattle.std.specs.Prelude.{◌≡◌, ℕ, ◌+◌, ◌<◌, ◌≤◌, false, List, Option, Some, None, IfSome, IsErrAnd, Result, Ok, Err, MatchResult}
+use Rattle.std.proofs.Common.{refl, sym, subst, ◌∙◌, arith, inl, inr}
 use Rattle.std.proofs.lemmas.Bool.Decides.{nat_tests}
 use Rattle.e57_base.specs.Source.{SourceView}
-use Rattle.e57_base.specs.Told.{told_map, told_both, told_here}
+use Rattle.e57_base.specs.Told.{told_map, told_both}
 use Rattle.e57_base.specs.declared.fault.Fault.{Fault}
 use Rattle.e57_base.specs.declared.fault.OpenFault.{OpenFault}
 use Rattle.e57_base.specs.declared.fault.OpenFault.TheVariants.{Refused, Source, Memory}
@@ -11,8 +11,8 @@ use Rattle.e57_stream.specs.AskingLaws.{asks_met_none, asks_met_map}
 use Rattle.e57_column.specs.Column.{column_item, StandsIn}
 use Rattle.e57_column.specs.Reading.{SameField, OnRecords, AsksRecords}
 use Rattle.e57_column.specs.declared.state.State.{State}
-use Rattle.e57_records.specs.Block.{Block, has_record, places_of, Holds}
-use Rattle.e57_records.specs.Filling.{IsNew, Fills, FillsNot, IsLost, most_of}
+use Rattle.e57_records.specs.Block.{Block, has_record, Holds}
+use Rattle.e57_records.specs.Filling.{Fills, IsLost, most_of}
 use Rattle.e57_rows.specs.Blocks.{IsReady, HasRecords, HeldNot, KeepsBlock, FillsBlock, IsBlockCause, FillsNoBlock}
 
 -- ---- facts of a file
@@ -74,8 +74,8 @@ no_record old new before after i want found keeps (inr (low, high)) none is =
     let place = not_has after i low high none in
     told_map (λ file. Holds file after) (λ file. column_item file before.column i ≡ Err found) old.held
     (λ file holds.
-        let fault = subst (λ (o : Option Fault). IfSome o (λ f. column_item file after.column (after.first + after.count) ≡ Err f)) is holds.fault in
-        sym (same_item file before.column after.column i keeps.same) ∙ subst (λ (k : ℕ). column_item file after.column k ≡ Err found) place fault) keeps.holds
+    let fault = subst (λ (o : Option Fault). IfSome o (λ f. column_item file after.column (after.first + after.count) ≡ Err f)) is holds.fault in
+    sym (same_item file before.column after.column i keeps.same) ∙ subst (λ (k : ℕ). column_item file after.column k ≡ Err found) place fault) keeps.holds
 
 pub held_after : (old new : SourceView) (before after : Block) (i want : ℕ) (result : Result ℕ OpenFault) → KeepsBlock old before i want new after → IsReady i after
     → MatchResult result (λ n. (0 < n) × HasRecords i n after) (λ fault. HeldNot after i fault)

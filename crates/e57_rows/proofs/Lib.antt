@@ -3,3 +3,7 @@ pub mod Digits
 pub mod Held
 pub mod Cells
 pub mod Filling
+pub mod Records
+pub mod Sides
+pub mod Openings
+pub mod Puts

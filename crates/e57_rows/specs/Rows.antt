@@ -1,5 +1,5 @@
 -- The rows of some records: of each the items of the asked fields, in the asked order.
-use Rattle.std.specs.Prelude.{◌≡◌, ℕ, zero, suc, ◌+◌, List, [], ◌∷◌, ◌++◌, map, slice_index_or, Option, Some, None, Result, Ok, Err}
+use Rattle.std.specs.Prelude.{ℕ, zero, suc, ◌+◌, List, [], ◌∷◌, ◌++◌, map, slice_index_or, Option, Some, None, Result, Ok, Err}
 use Rattle.e57_base.specs.declared.fault.Fault.{Fault}
 use Rattle.e57_layout.specs.declared.field.Field.{Field}
 use Rattle.e57_layout.specs.declared.field.FieldKind.TheVariants.{Text}

@@ -54,7 +54,14 @@ pub fn put_rows<S: Source, O: Sink>(
     let until = from + count;
     let mut at = from;
     while at < until {
-        let n = fill_blocks(section, fixed, &mut blocks, pages, at, run_length(until - at))?;
+        let n = fill_blocks(
+            section,
+            fixed,
+            &mut blocks,
+            pages,
+            at,
+            run_length(until - at),
+        )?;
         text = rows_of(&blocks, at, n, text)?;
         match out.put(&text) {
             Ok(()) => at += n as u64,

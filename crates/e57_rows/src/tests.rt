@@ -21,8 +21,7 @@ const HEADER: &[u8] =
     b"ASTM-E57\x01\0\0\0\0\0\0\0\0\x08\0\0\0\0\0\0\x40\0\0\0\0\0\0\0\x08\0\0\0\0\0\0\0\0\x04\0\0\0\0\0\0";
 
 // Three records of an integer from -10 to 245, a word of 32 bits and a string, in one packet without an index.
-const SECTION: &[u8] =
-    b"\x01\0\0\0\0\0\0\0\x4c\0\0\0\0\0\0\0\x50\0\0\0\0\0\0\0\0\0\0\0\0\0\0\0\
+const SECTION: &[u8] = b"\x01\0\0\0\0\0\0\0\x4c\0\0\0\0\0\0\0\x50\0\0\0\0\0\0\0\0\0\0\0\0\0\0\0\
 \x01\x01\x2b\0\x03\0\x03\0\x0c\0\x0e\0\x07\x11\xff\0\0\x80\x3f\xef\xbe\xad\xde\0\0\0\0\x06a,b\x10say \"hi\"\0\0\0\0";
 
 // The open file with this section from place 48 on, with one byte changed before the pages' words were set.
@@ -83,7 +82,9 @@ fn put(
     let section = open_section(&mut pages, 1, 48, 3, 3)?;
     let fields = fields(alloc)?;
     let mut out = MemSink::new(alloc, 256)?;
-    let result = put_some(alloc, &section, &fields, asked, from, count, &mut pages, &mut out);
+    let result = put_some(
+        alloc, &section, &fields, asked, from, count, &mut pages, &mut out,
+    );
     Ok((out, result))
 }
 
@@ -109,7 +110,9 @@ fn put_some(
         return Err(RunFault::Source);
     }
     let fixed = Some(Fixed { field: 1, bytes: 4 });
-    put_rows(alloc, section, fixed, fields, asked, from, count, pages, out)
+    put_rows(
+        alloc, section, fixed, fields, asked, from, count, pages, out,
+    )
 }
 
 // No byte is changed.

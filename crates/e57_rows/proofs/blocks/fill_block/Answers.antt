@@ -21,13 +21,13 @@ returns-clause-fills g c =
     let after = c.if-not-has.block in
     elim c.if-not-has.branch [
       | then-not-has+then-is_none+in_ok-fill w ↦
-      let filled = w.in_ok-fill.ensures.fills in
-      let keeps : KeepsBlock old before c.args.i c.args.want new after =
+          let filled = w.in_ok-fill.ensures.fills in
+          let keeps : KeepsBlock old before c.args.i c.args.want new after =
           rw (w.block-is, w.pages-is) (keeps_filled old (g.S.Source.view w.fill.new.pages.source) before w.fill.new.self c.args.i c.args.want c.requires.holds filled) in
-      let ready : IsReady c.args.i after = rw w.block-is (ready_filled old (g.S.Source.view w.fill.new.pages.source) before w.fill.new.self c.args.i c.args.want filled) in
-      held_after old new before after c.args.i c.args.want c.held_from.result keeps ready c.held_from.ensures
+          let ready : IsReady c.args.i after = rw w.block-is (ready_filled old (g.S.Source.view w.fill.new.pages.source) before w.fill.new.self c.args.i c.args.want filled) in
+          held_after old new before after c.args.i c.args.want c.held_from.result keeps ready c.held_from.ensures
       | else-not-has w ↦
-      let keeps : KeepsBlock old before c.args.i c.args.want new after = rw (w.block-is, w.pages-is) (keeps_same old before c.args.i c.args.want c.requires.holds) in
-      let ready : IsReady c.args.i after = rw w.block-is c.requires.ready in
-      held_after old new before after c.args.i c.args.want c.held_from.result keeps ready c.held_from.ensures
+          let keeps : KeepsBlock old before c.args.i c.args.want new after = rw (w.block-is, w.pages-is) (keeps_same old before c.args.i c.args.want c.requires.holds) in
+          let ready : IsReady c.args.i after = rw w.block-is c.requires.ready in
+          held_after old new before after c.args.i c.args.want c.held_from.result keeps ready c.held_from.ensures
     ]

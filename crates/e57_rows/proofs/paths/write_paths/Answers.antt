@@ -1,4 +1,4 @@
-use Rattle.std.proofs.Common.{ℕ, ◌+◌, ◌^◌, ◌<◌, map, take, length, arith, rules}
+use Rattle.std.proofs.Common.{ℕ, ◌+◌, ◌^◌, ◌<◌, map, take, arith, rules}
 use Rattle.e57_rows.specs.Rows.{field_at}
 use Rattle.e57_rows.proofs.Cells.{all_cells, few_cells, path_more}
 use Rattle.e57_rows.proofs.Writing.{row_first}

@@ -1,4 +1,4 @@
-use Rattle.std.proofs.Common.{◌∙◌, ap, refl, Some}
+use Rattle.std.proofs.Common.{refl, Some}
 use Rattle.e57_rows.specs.Blocks.{held_rows}
 use Rattle.e57_rows.proofs.Writing.{whole_text}
 use Rattle.e57_rows.proofs.text.rows_of.Goals as goal

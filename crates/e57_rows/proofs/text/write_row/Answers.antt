@@ -1,4 +1,4 @@
-use Rattle.std.proofs.Common.{◌+◌, ◌^◌, ◌<◌, map, take, length, arith, rules}
+use Rattle.std.proofs.Common.{◌+◌, ◌^◌, ◌<◌, map, take, arith, rules}
 use Rattle.csv.specs.Writing.{text_written}
 use Rattle.e57_rows.specs.Blocks.{cell_at, held_row}
 use Rattle.std.proofs.lemmas.Result.{on_ok_weaker}

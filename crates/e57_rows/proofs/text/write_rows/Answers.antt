@@ -1,4 +1,3 @@
-use Rattle.std.proofs.Common.{◌+◌, sym, arith}
 use Rattle.e57_rows.specs.Blocks.{held_rows}
 use Rattle.e57_rows.proofs.Held.{all_records, rows_last}
 use Rattle.e57_rows.proofs.text.write_rows.Goals as goal

@@ -1,0 +1,155 @@
+-- The row of a record that all blocks hold, and that of one with a fault; the rows of records one after another.
+use Rattle.std.specs.Prelude.{◌≡◌, ℕ, zero, suc, ◌+◌, ◌-◌, ◌<◌, List, [], ◌∷◌, ◌++◌, map, Option, Some, None, Result, Ok, Err}
+use Rattle.std.specs.List.{AllByRecursion}
+use Rattle.std.proofs.Common.{refl, sym, subst, ap, ◌∙◌, arith, add-zero, zero-add, append_assoc}
+use Rattle.std.proofs.lemmas.List.{append-nil}
+use Rattle.e57_base.specs.declared.fault.Fault.{Fault}
+use Rattle.e57_layout.specs.Values.{Value}
+use Rattle.e57_layout.specs.declared.field.Fixed.{Fixed}
+use Rattle.e57_layout.specs.declared.section.Section.{Section}
+use Rattle.e57_sections.specs.Cloud.{Leaf}
+use Rattle.e57_sections.specs.PathItem.{and_then, item_of}
+use Rattle.e57_column.specs.Column.{leaf_of, column_item}
+use Rattle.e57_records.specs.Block.{Block, item_of as held_item, Holds}
+use Rattle.e57_rows.specs.Cells.{cell, csv_row}
+use Rattle.e57_rows.specs.Rows.{cells_of, section_row, rows_text, rows_fault, text_before, fault_before}
+use Rattle.e57_rows.specs.Blocks.{field_of, IsOf, AreBlocks, HasRecords, cell_at, held_row, held_rows}
+use Rattle.e57_rows.proofs.Held.{all_map}
+
+-- ---- one item
+
+-- the item of a field, as a column of the section has it
+column_of : (file : List ℕ) (s : Section) (fixed : Option Fixed) (b : Block) (i : ℕ) → IsOf s fixed b → column_item file b.column i ≡ item_of file s fixed (field_of b).0 (field_of b).1 i
+column_of file s fixed b i is =
+    ap (λ (t : Section). item_of file t b.column.stream.fixed b.column.stream.field (leaf_of b.column) i) is.in_section
+    ∙ ap (λ (x : Option Fixed). item_of file s x b.column.stream.field (leaf_of b.column) i) is.with_fixed
+
+item_held : (file : List ℕ) (s : Section) (fixed : Option Fixed) (b : Block) (i : ℕ) → IsOf s fixed b → Holds file b → HasRecords i 1 b → item_of file s fixed (field_of b).0 (field_of b).1 i ≡ Ok (held_item b (i - b.first))
+item_held file s fixed b i is holds has =
+    let low = has.0 in
+    let high = has.1 in
+    let place : b.first + (i - b.first) ≡ i = omega (arith, low) in
+    let item = holds.items (i - b.first) (omega (arith, low, high)) in
+    sym (column_of file s fixed b i is) ∙ subst (λ (k : ℕ). column_item file b.column k ≡ Ok (held_item b (i - b.first))) place item
+
+-- ---- one record
+
+-- what is found of a field
+abbrev pub looks : List ℕ → Section → Option Fixed → ℕ → ℕ → Leaf → Result Value Fault
+looks file s fixed i f leaf = item_of file s fixed f leaf i
+
+cells_first : (item : ℕ → Leaf → Result Value Fault) (f : ℕ) (leaf : Leaf) (asked : List (ℕ × Leaf)) (v : Value) → item f leaf ≡ Ok v → cells_of item ((f, leaf) ∷ asked) ≡ and_then (cells_of item asked) (λ cells. Ok (cell leaf.kind v ∷ cells))
+unfolding cells_of
+cells_first item f leaf asked v is = ap (λ (r : Result Value Fault). and_then r (λ v. and_then (cells_of item asked) (λ cells. Ok (cell leaf.kind v ∷ cells)))) is
+
+cells_fault : (item : ℕ → Leaf → Result Value Fault) (f : ℕ) (leaf : Leaf) (asked : List (ℕ × Leaf)) (found : Fault) → item f leaf ≡ Err found → cells_of item ((f, leaf) ∷ asked) ≡ Err found
+unfolding cells_of
+cells_fault item f leaf asked found is = ap (λ (r : Result Value Fault). and_then r (λ v. and_then (cells_of item asked) (λ cells. Ok (cell leaf.kind v ∷ cells)))) is
+
+cells_held : (file : List ℕ) (s : Section) (fixed : Option Fixed) (i : ℕ) (blocks : List Block) → AllByRecursion (IsOf s fixed) blocks → AllByRecursion (Holds file) blocks → AllByRecursion (HasRecords i 1) blocks
+    → cells_of (looks file s fixed i) (map field_of blocks) ≡ Ok (map (cell_at i) blocks)
+unfolding cells_of
+cells_held file s fixed i [] are hold have = refl
+cells_held file s fixed i (b ∷ blocks) are hold have =
+    cells_first (looks file s fixed i) (field_of b).0 (field_of b).1 (map field_of blocks) (held_item b (i - b.first)) (item_held file s fixed b i are.0 hold.0 have.0)
+    ∙ ap (λ (r : Result (List (List ℕ)) Fault). and_then r (λ cells. Ok (cell_at i b ∷ cells))) (cells_held file s fixed i blocks are.1 hold.1 have.1)
+
+-- the first blocks hold the record, and the next one has a fault
+cells_stop : (file : List ℕ) (s : Section) (fixed : Option Fixed) (i : ℕ) (before : List Block) (b : Block) (rest : List (ℕ × Leaf)) (found : Fault) → AllByRecursion (IsOf s fixed) before → AllByRecursion (Holds file) before → AllByRecursion (HasRecords i 1) before
+    → item_of file s fixed (field_of b).0 (field_of b).1 i ≡ Err found → cells_of (looks file s fixed i) (map field_of before ++ field_of b ∷ rest) ≡ Err found
+cells_stop file s fixed i [] b rest found are hold have wrong = cells_fault (looks file s fixed i) (field_of b).0 (field_of b).1 rest found wrong
+cells_stop file s fixed i (c ∷ before) b rest found are hold have wrong =
+    cells_first (looks file s fixed i) (field_of c).0 (field_of c).1 (map field_of before ++ field_of b ∷ rest) (held_item c (i - c.first)) (item_held file s fixed c i are.0 hold.0 have.0)
+    ∙ ap (λ (r : Result (List (List ℕ)) Fault). and_then r (λ cells. Ok (cell_at i c ∷ cells))) (cells_stop file s fixed i before b rest found are.1 hold.1 have.1 wrong)
+
+row_held : (file : List ℕ) (s : Section) (fixed : Option Fixed) (i : ℕ) (blocks : List Block) → AllByRecursion (IsOf s fixed) blocks → AllByRecursion (Holds file) blocks → AllByRecursion (HasRecords i 1) blocks → section_row file s fixed (map field_of blocks) i ≡ Ok (held_row blocks i)
+unfolding section_row
+row_held file s fixed i blocks are hold have = ap (λ (r : Result (List (List ℕ)) Fault). and_then r (λ cells. Ok (csv_row cells))) (cells_held file s fixed i blocks are hold have)
+
+pub row_stop : (file : List ℕ) (s : Section) (fixed : Option Fixed) (i : ℕ) (before : List Block) (b : Block) (rest : List (ℕ × Leaf)) (found : Fault) → AllByRecursion (IsOf s fixed) before → AllByRecursion (Holds file) before → AllByRecursion (HasRecords i 1) before → IsOf s fixed b
+    → column_item file b.column i ≡ Err found → section_row file s fixed (map field_of before ++ field_of b ∷ rest) i ≡ Err found
+unfolding section_row
+row_stop file s fixed i before b rest found are hold have is wrong =
+    ap (λ (r : Result (List (List ℕ)) Fault). and_then r (λ cells. Ok (csv_row cells))) (cells_stop file s fixed i before b rest found are hold have (sym (column_of file s fixed b i is) ∙ wrong))
+
+-- ---- records one after another
+
+text_first : (row : ℕ → Result (List ℕ) Fault) (i n : ℕ) (text : List ℕ) → row i ≡ Ok text → rows_text row i (suc n) ≡ text ++ rows_text row (i + 1) n
+unfolding rows_text
+text_first row i n text is = ap (λ (r : Result (List ℕ) Fault). text_before r (rows_text row (i + 1) n)) is
+
+fault_first : (row : ℕ → Result (List ℕ) Fault) (i n : ℕ) (text : List ℕ) → row i ≡ Ok text → rows_fault row i (suc n) ≡ rows_fault row (i + 1) n
+unfolding rows_fault
+fault_first row i n text is = ap (λ (r : Result (List ℕ) Fault). fault_before r (rows_fault row (i + 1) n)) is
+
+text_stop : (row : ℕ → Result (List ℕ) Fault) (i n : ℕ) (found : Fault) → row i ≡ Err found → rows_text row i (suc n) ≡ []
+unfolding rows_text
+text_stop row i n found is = ap (λ (r : Result (List ℕ) Fault). text_before r (rows_text row (i + 1) n)) is
+
+fault_stop : (row : ℕ → Result (List ℕ) Fault) (i n : ℕ) (found : Fault) → row i ≡ Err found → rows_fault row i (suc n) ≡ Some found
+unfolding rows_fault
+fault_stop row i n found is = ap (λ (r : Result (List ℕ) Fault). fault_before r (rows_fault row (i + 1) n)) is
+
+-- n rows of records without a fault, from record i on, and their text
+pub record AreRows (row : ℕ → Result (List ℕ) Fault) (i n : ℕ) (text : List ℕ) : Type 0 where
+  pub sound : rows_fault row i n ≡ None
+  pub text_is : text ≡ rows_text row i n
+
+rows_held : (row : ℕ → Result (List ℕ) Fault) (blocks : List Block) (i n : ℕ) → ((k : ℕ) → k < n → row (i + k) ≡ Ok (held_row blocks (i + k))) → AreRows row i n (held_rows blocks i n)
+unfolding held_rows rows_text rows_fault
+rows_held row blocks i zero each = record { sound = refl; text_is = refl }
+rows_held row blocks i (suc n) each =
+    let here = rw add-zero at (each 0 (omega arith)) in
+    let rest = rows_held row blocks (i + 1) n (λ k below. let place : i + (k + 1) ≡ i + 1 + k = omega arith in subst (λ (j : ℕ). row j ≡ Ok (held_row blocks j)) place (each (k + 1) (omega (arith, below)))) in
+    record {
+      sound = fault_first row i n (held_row blocks i) here ∙ rest.sound;
+      text_is = ap (λ (t : List ℕ). held_row blocks i ++ t) rest.text_is ∙ sym (text_first row i n (held_row blocks i) here);
+    }
+
+-- the rows of the records that all blocks hold
+pub rows_sound : (file : List ℕ) (s : Section) (fixed : Option Fixed) (asked : List (ℕ × Leaf)) (blocks : List Block) (i n : ℕ) → AreBlocks s fixed asked blocks → AllByRecursion (Holds file) blocks → AllByRecursion (HasRecords i n) blocks → AreRows (section_row file s fixed asked) i n (held_rows blocks i n)
+rows_sound file s fixed asked blocks i n are hold have =
+    subst (λ (fields : List (ℕ × Leaf)). AreRows (section_row file s fixed fields) i n (held_rows blocks i n)) are.fields
+    (rows_held (section_row file s fixed (map field_of blocks)) blocks i n
+    (λ k below. row_held file s fixed (i + k) blocks are.all hold
+    (all_map (HasRecords i n) (HasRecords (i + k) 1) blocks (λ b has. let low = has.0 in let high = has.1 in (omega (arith, low), omega (arith, high, below))) have)))
+
+-- what follows n rows without a fault, with their text
+pub record Follow (row : ℕ → Result (List ℕ) Fault) (i n m : ℕ) (text : List ℕ) : Type 0 where
+  pub faults : rows_fault row i (n + m) ≡ rows_fault row (i + n) m
+  pub texts : rows_text row i (n + m) ≡ text ++ rows_text row (i + n) m
+
+follow_first : (row : ℕ → Result (List ℕ) Fault) (i n m : ℕ) (text : List ℕ) (r : Result (List ℕ) Fault) → row i ≡ r → AreRows row i (suc n) text → (AreRows row (i + 1) n (rows_text row (i + 1) n) → Follow row (i + 1) n m (rows_text row (i + 1) n)) → Follow row i (suc n) m text
+follow_first row i n m text (Ok first) is rows on =
+    let size : suc n + m ≡ suc (n + m) = omega arith in
+    let place : i + suc n ≡ i + 1 + n = omega arith in
+    let rest = on (record { sound = sym (fault_first row i n first is) ∙ rows.sound; text_is = refl }) in
+    let whole : text ≡ first ++ rows_text row (i + 1) n = rows.text_is ∙ text_first row i n first is in
+    record {
+      faults = rw (size, place) (fault_first row i (n + m) first is ∙ rest.faults);
+      texts = rw (size, place, whole) (text_first row i (n + m) first is ∙ ap (λ (t : List ℕ). first ++ t) rest.texts ∙ sym (append_assoc first (rows_text row (i + 1) n) (rows_text row (i + 1 + n) m)));
+    }
+follow_first row i n m text (Err found) is rows on = let never : Some found ≡ None = sym (fault_stop row i n found is) ∙ rows.sound in absurd cc
+
+-- rows without a fault, and those behind them
+pub rows_on : (row : ℕ → Result (List ℕ) Fault) (i n m : ℕ) (text : List ℕ) → AreRows row i n text → Follow row i n m text
+unfolding rows_text
+rows_on row i zero m text rows = record { faults = rw (zero-add, add-zero) refl; texts = rw (zero-add, add-zero, rows.text_is) refl }
+rows_on row i (suc n) m text rows = follow_first row i n m text (row i) refl rows (λ rest. rows_on row (i + 1) n m (rows_text row (i + 1) n) rest)
+
+pub rows_none : (row : ℕ → Result (List ℕ) Fault) (i : ℕ) → AreRows row i 0 []
+unfolding rows_text rows_fault
+rows_none row i = record { sound = refl; text_is = refl }
+
+pub rows_both : (row : ℕ → Result (List ℕ) Fault) (i n m : ℕ) (first next : List ℕ) → AreRows row i n first → AreRows row (i + n) m next → AreRows row i (n + m) (first ++ next)
+rows_both row i n m first next a b =
+    let on = rows_on row i n m first a in
+    record { sound = on.faults ∙ b.sound; text_is = ap (λ (t : List ℕ). first ++ t) b.text_is ∙ sym on.texts }
+
+-- rows without a fault, and a record with one
+pub rows_stop : (row : ℕ → Result (List ℕ) Fault) (i n m : ℕ) (text : List ℕ) (found : Fault) → AreRows row i n text → row (i + n) ≡ Err found → (rows_fault row i (n + suc m) ≡ Some found) × (text ≡ rows_text row i (n + suc m))
+rows_stop row i n m text found rows wrong =
+    let on = rows_on row i n (suc m) text rows in (
+      on.faults ∙ fault_stop row (i + n) m found wrong,
+      sym (append-nil text) ∙ ap (λ (t : List ℕ). text ++ t) (sym (text_stop row (i + n) m found wrong)) ∙ sym on.texts,
+    )

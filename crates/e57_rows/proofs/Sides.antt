@@ -1,0 +1,197 @@
+-- Blocks side by side, filled one after another.
+use Rattle.std.specs.Prelude.{◌≡◌, ℕ, zero, suc, ◌+◌, ◌<◌, ◌≤◌, min, List, [], ◌∷◌, ◌++◌, map, length, take, drop, get_or, Option, IfSome, Contains, Err}
+use Rattle.std.specs.List.{AllByRecursion}
+use Rattle.std.proofs.Common.{set, refl, sym, subst, ap, ◌∙◌, arith}
+use Rattle.std.proofs.lemmas.List.{drop_more, drop-set-lt, get_or-map, length-map, map-append, take-append-drop, take_all, take_more_set}
+use Rattle.e57_base.specs.Count.{rose_before}
+use Rattle.e57_base.specs.Source.{SourceView}
+use Rattle.e57_base.specs.Told.{told_map, told_both, told_here}
+use Rattle.e57_base.specs.declared.fault.Fault.{Fault}
+use Rattle.e57_base.specs.declared.fault.OpenFault.{OpenFault}
+use Rattle.e57_base.specs.declared.fault.OpenFault.TheVariants.{Refused, Source, Memory}
+use Rattle.e57_layout.specs.declared.field.Fixed.{Fixed}
+use Rattle.e57_layout.specs.declared.section.Section.{Section}
+use Rattle.e57_sections.specs.Cloud.{Leaf}
+use Rattle.e57_sections.specs.Met.{OnItem}
+use Rattle.e57_stream.specs.Asking.{AsksMet}
+use Rattle.e57_stream.specs.AskingLaws.{asks_met_none, asks_met_on, asks_met_map}
+use Rattle.e57_column.specs.Column.{leaf_of, column_item, StandsIn}
+use Rattle.e57_column.specs.Reading.{SameField, OnRecords, AsksRecords}
+use Rattle.e57_records.specs.Block.{Block, Holds}
+use Rattle.e57_rows.specs.Rows.{section_row}
+use Rattle.e57_rows.specs.Putting.{Slice, OnSlice}
+use Rattle.e57_rows.specs.Blocks.{field_of, IsOf, AreBlocks, IsReady, HasRecords, AreOfFile, FillsBlock, IsBlockCause, FillsNoBlock, blocks_slice, FillsBlocks, IsBlocksCause, FillsNoBlocks}
+use Rattle.e57_rows.proofs.Held.{all_at, all_map}
+use Rattle.e57_rows.proofs.Records.{row_stop}
+
+-- ---- lists
+
+pub all_append : {X : Type 0} (P : X → Type 0) (xs ys : List X) → AllByRecursion P xs → AllByRecursion P ys → AllByRecursion P (xs ++ ys)
+all_append P [] ys f g = g
+all_append P (x ∷ xs) ys f g = (f.0, all_append P xs ys f.1 g)
+
+all_front : {X : Type 0} (P : X → Type 0) (k : ℕ) (xs : List X) → AllByRecursion P xs → AllByRecursion P (take k xs)
+all_front P zero xs all = tt
+all_front P (suc k) [] all = tt
+all_front P (suc k) (x ∷ xs) all = (all.0, all_front P k xs all.1)
+
+all_set : {X : Type 0} (P : X → Type 0) (xs : List X) (k : ℕ) (y : X) → AllByRecursion P xs → P y → AllByRecursion P (set xs k y)
+all_set P [] k y all is = tt
+all_set P (x ∷ xs) zero y all is = (is, all.1)
+all_set P (x ∷ xs) (suc k) y all is = (all.0, all_set P xs k y all.1 is)
+
+map_set : {X Y : Type 0} (f : X → Y) (xs : List X) (k : ℕ) (d y : X) → k < length xs → f y ≡ f (get_or xs k d) → map f (set xs k y) ≡ map f xs
+map_set f [] k d y below same = refl
+map_set f (x ∷ xs) zero d y below same = ap (λ z. z ∷ map f xs) same
+map_set f (x ∷ xs) (suc k) d y below same = ap (λ zs. f x ∷ zs) (map_set f xs k d y (omega arith) same)
+
+-- ---- the same field
+
+pub same_of : (s : Section) (fixed : Option Fixed) (a b : Block) → SameField a.column b.column → IsOf s fixed a → IsOf s fixed b
+same_of s fixed a b same is = record { in_section = rw same.stream is.in_section; with_fixed = rw same.stream is.with_fixed }
+
+same_field : (a b : Block) → SameField a.column b.column → field_of b ≡ field_of a
+same_field a b same = rw (same.stream, same.items) refl
+
+-- ---- pages
+
+-- pages on the way to a block's items are pages of the slice
+pub asks_slice : (a : Slice) (old new : SourceView) (b : Block) → IsOf a.section a.fixed b → Contains a.asked (field_of b) → IfSome old.held (λ file. Holds file b) → AsksRecords old b.column a.from a.count new → AsksMet (OnSlice a) old new
+asks_slice a old new b is among holds asks =
+    asks_met_map (λ file p. StandsIn file b.column → OnRecords file b.column a.from a.count p) (OnSlice a) old new
+    (told_map (λ file. Holds file b) (λ file. (p : ℕ) → (StandsIn file b.column → OnRecords file b.column a.from a.count p) → OnSlice a file p) old.held
+    (λ file held p on.
+    let one = on held.stands in
+    let way = subst (λ (s : Section). OnItem file s b.column.stream.fixed b.column.stream.field (leaf_of b.column) one.i p) is.in_section one.way in
+    record {
+      f = b.column.stream.field;
+      leaf = leaf_of b.column;
+      i = one.i;
+      asks = among;
+      after = one.after;
+      before = one.before;
+      way = subst (λ (x : Option Fixed). OnItem file a.section x b.column.stream.field (leaf_of b.column) one.i p) is.with_fixed way;
+    }) holds) asks
+
+-- a block's field is among those of all
+among_fields : (blocks : List Block) (j : ℕ) (d : Block) → j < length blocks → Contains (map field_of blocks) (field_of (get_or blocks j d))
+among_fields blocks j d below =
+    (j, rw (length-map blocks field_of) below, get_or-map field_of blocks j d (field_of (get_or blocks j d)) below)
+
+-- ---- blocks filled so far
+
+-- The first j blocks hold n records of the slice, and the others were not looked at.
+pub record FilledTo (a : Slice) (old : SourceView) (j n : ℕ) (new : SourceView) (blocks : List Block) : Type 0 where
+  pub are : AreBlocks a.section a.fixed a.asked blocks
+  pub some : 0 < n
+  pub few : n ≤ a.count
+  pub have : AllByRecursion (HasRecords a.from n) (take j blocks)
+  pub ready : AllByRecursion (IsReady a.from) (drop j blocks)
+  pub met : AsksMet (OnSlice a) old new
+  pub holds : AreOfFile old blocks
+
+pub filled_none : (s : Section) (fixed : Option Fixed) (blocks : List Block) (i want : ℕ) (source : SourceView) → 0 < want → AllByRecursion (IsOf s fixed) blocks → AllByRecursion (IsReady i) blocks → AreOfFile source blocks
+    → FilledTo (blocks_slice s fixed blocks i want) source 0 want source blocks
+filled_none s fixed blocks i want source some all ready holds = record {
+  are = record { fields = refl; all = all };
+  some = some;
+  few = omega arith;
+  have = tt;
+  ready = ready;
+  met = asks_met_none (OnSlice (blocks_slice s fixed blocks i want)) source;
+  holds = holds;
+}
+
+-- what is known of the block that comes
+pub record NextBlock (a : Slice) (mid : SourceView) (b : Block) : Type 0 where
+  pub is_of : IsOf a.section a.fixed b
+  pub among : Contains a.asked (field_of b)
+  pub ready : IsReady a.from b
+  pub holds : IfSome mid.held (λ file. Holds file b)
+
+pub next_block : (a : Slice) (old mid : SourceView) (j n : ℕ) (blocks : List Block) (b d : Block) → j < length blocks → b ≡ get_or blocks j d → FilledTo a old j n mid blocks → NextBlock a mid b
+next_block a old mid j n blocks b d below is filled =
+    subst (NextBlock a mid) (sym is)
+    (record {
+      is_of = all_at (IsOf a.section a.fixed) blocks j d below filled.are.all;
+      among = subst (λ (asked : List (ℕ × Leaf)). Contains asked (field_of (get_or blocks j d))) filled.are.fields (among_fields blocks j d below);
+      ready = (subst (AllByRecursion (IsReady a.from)) (drop_more blocks j d below) filled.ready).0;
+      holds = told_map (λ file. AllByRecursion (Holds file) blocks) (λ file. Holds file (get_or blocks j d)) mid.held (λ file all. all_at (Holds file) blocks j d below all) (told_here (λ file. AllByRecursion (Holds file) blocks) old.held mid.held filled.met.asks.same.held filled.holds);
+    })
+
+fewer_records : (i n m : ℕ) (b : Block) → m ≤ n → HasRecords i n b → HasRecords i m b
+fewer_records i n m b few has = let high = has.1 in (has.0, omega (arith, high, few))
+
+-- one block more
+pub filled_on : (a : Slice) (old mid new : SourceView) (j n have count : ℕ) (blocks : List Block) (b d after : Block) → j < length blocks → b ≡ get_or blocks j d → count ≡ min n have → FilledTo a old j n mid blocks → FillsBlock mid b a.from a.count have new after
+    → FilledTo a old (j + 1) count new (set blocks j after)
+filled_on a old mid new j n have count blocks b d after below is least filled fills =
+    let next = next_block a old mid j n blocks b d below is filled in
+    let keeps = fills.keeps in
+    let some = filled.some in
+    let some_too = fills.some in
+    let few = filled.few in
+    record {
+      are = record {
+        fields = map_set field_of blocks j d after below (same_field b after keeps.same ∙ ap field_of is) ∙ filled.are.fields;
+        all = all_set (IsOf a.section a.fixed) blocks j after filled.are.all (same_of a.section a.fixed b after keeps.same next.is_of);
+      };
+      some = omega (arith, least, some, some_too);
+      few = omega (arith, least, few);
+      have = subst (AllByRecursion (HasRecords a.from count)) (sym (take_more_set blocks j after below))
+          (all_append (HasRecords a.from count) (take j blocks) (after ∷ [])
+          (all_map (HasRecords a.from n) (HasRecords a.from count) (take j blocks) (λ x has. fewer_records a.from n count x (omega (arith, least)) has) filled.have)
+          (fewer_records a.from have count after (omega (arith, least)) fills.records, tt));
+      ready = subst (AllByRecursion (IsReady a.from)) (sym (drop-set-lt (j + 1) blocks j after (omega arith))) (subst (AllByRecursion (IsReady a.from)) (drop_more blocks j d below) filled.ready).1;
+      met = asks_met_on (OnSlice a) old mid new filled.met (asks_slice a mid new b next.is_of next.among next.holds keeps.met);
+      holds = told_both (λ file. AllByRecursion (Holds file) blocks) (λ file. Holds file after) (λ file. AllByRecursion (Holds file) (set blocks j after)) old.held (λ file all one. all_set (Holds file) blocks j after all one) filled.holds
+          (told_here (λ file. Holds file after) mid.held old.held (sym filled.met.asks.same.held) keeps.holds);
+    }
+
+-- all blocks
+pub filled_all : (a : Slice) (old new : SourceView) (j n : ℕ) (blocks : List Block) → length blocks ≤ j → FilledTo a old j n new blocks → FillsBlocks a old n new blocks
+filled_all a old new j n blocks past filled = record {
+  are = filled.are;
+  some = filled.some;
+  few = filled.few;
+  have = subst (AllByRecursion (HasRecords a.from n)) (take_all j blocks past) filled.have;
+  met = filled.met;
+  holds = filled.holds;
+}
+
+-- ---- a block that isn't filled
+
+-- the row of the record has the fault of the next block
+row_wrong : (a : Slice) (file : List ℕ) (j n : ℕ) (blocks : List Block) (b d : Block) (found : Fault) → j < length blocks → b ≡ get_or blocks j d → 0 < n → AreBlocks a.section a.fixed a.asked blocks → AllByRecursion (HasRecords a.from n) (take j blocks) → IsOf a.section a.fixed b
+    → AllByRecursion (Holds file) blocks → column_item file b.column a.from ≡ Err found → section_row file a.section a.fixed a.asked a.from ≡ Err found
+row_wrong a file j n blocks b d found below is some are have is_of holds wrong =
+    let fields : map field_of (take j blocks) ++ field_of b ∷ map field_of (drop (j + 1) blocks) ≡ a.asked =
+    ap (λ (x : Block). map field_of (take j blocks) ++ field_of x ∷ map field_of (drop (j + 1) blocks)) is
+    ∙ sym (map-append field_of (take j blocks) (get_or blocks j d ∷ drop (j + 1) blocks))
+    ∙ ap (λ (xs : List Block). map field_of (take j blocks ++ xs)) (sym (drop_more blocks j d below))
+    ∙ ap (map field_of) (take-append-drop j blocks)
+    ∙ are.fields in
+    subst (λ (asked : List (ℕ × Leaf)). section_row file a.section a.fixed asked a.from ≡ Err found) fields
+    (row_stop file a.section a.fixed a.from (take j blocks) b (map field_of (drop (j + 1) blocks)) found
+    (all_front (IsOf a.section a.fixed) j blocks are.all)
+    (all_front (Holds file) j blocks holds)
+    (all_map (HasRecords a.from n) (HasRecords a.from 1) (take j blocks) (λ x has. fewer_records a.from n 1 x some has) have)
+    is_of wrong)
+
+pub filled_not : (a : Slice) (old mid new : SourceView) (j n : ℕ) (blocks : List Block) (b d after : Block) (lost : OpenFault) → j < length blocks → b ≡ get_or blocks j d → FilledTo a old j n mid blocks → FillsNoBlock mid b a.from a.count lost new after → FillsNoBlocks a old lost new
+filled_not a old mid new j n blocks b d after lost below is filled fails =
+    let next = next_block a old mid j n blocks b d below is filled in
+    record {
+      met = asks_met_on (OnSlice a) old mid new filled.met (asks_slice a mid new b next.is_of next.among next.holds fails.keeps.met);
+      cause = by_cause lost fails.cause next.is_of;
+    }
+  where
+    by_cause : (lost : OpenFault) → IsBlockCause mid b a.from lost new → IsOf a.section a.fixed b → IsBlocksCause a old lost new
+    by_cause (Refused found) (kind, wrong) is_of = (
+      kind,
+      told_both (λ file. AllByRecursion (Holds file) blocks) (λ file. column_item file b.column a.from ≡ Err found) (λ file. section_row file a.section a.fixed a.asked a.from ≡ Err found) old.held
+          (λ file holds e. row_wrong a file j n blocks b d found below is filled.some filled.are filled.have is_of holds e) filled.holds
+          (told_here (λ file. column_item file b.column a.from ≡ Err found) mid.held old.held (sym filled.met.asks.same.held) wrong),
+    )
+    by_cause Source rose is_of = rose_before old.faults mid.faults new.faults filled.met.asks.faults rose
+    by_cause Memory unit is_of = tt
