@@ -10,12 +10,7 @@ use std::test::*;
 // ---- files
 
 // A file with this section from byte 48 on, and this text from place `at` on.
-fn file_with(
-    alloc: Global,
-    section: &[u8],
-    text: &str,
-    at: usize,
-) -> Result<Vec<u8>, AllocError> {
+fn file_with(alloc: Global, section: &[u8], text: &str, at: usize) -> Result<Vec<u8>, AllocError> {
     let pages = at.wrapping_add(text.len()).div_ceil(1020);
     let place = (at / 1020).wrapping_mul(1024).wrapping_add(at % 1020);
     let mut logical = header(alloc, pages as u64, place as u64, text.len() as u64)?;
@@ -68,7 +63,7 @@ const CHUNKS: &[u8] = b"\x01\0\0\0\0\0\0\0p\x01\0\0\0\0\0\0 \x04\0\0\0\0\0\0@\x0
 \x08\0\x80?\x09\0\x80?\x0a\0\x80?\x0b\0\x80?\x0c\0\x80?\x0d\0\x80?\x0e\0\x80?\x0f\0\x80?\
 \0\x02a\x04aa\x06aaa\0\x02a\x04aa\x06aaa\0\x02a\x04aa\x06aaa\0\x02a\x04aa\x06aaa\0\0\
 \x01\x01C\0\x06\0\x0a\0\x0a\0\x04\0\0\0\x10\0\x0a\0\
-\00\x03\06\0\x90\x03\0P\0P\x05\0Z\0\xf0\x05\0\
+0\00\x03\06\0\x90\x03\0P\0P\x05\0Z\0\xf0\x05\0\
 \x10\x11\x12\x13\x10\0\x80?\x11\0\x80?\x12\0\x80?\x13\0\x80?\0\x02a\x04aa\x06aaa\0\0\
 /\0\x02\0\0\0\0\0\0\0\0\0\0\0\0\0\0\0\0\0\0\0 \x04\0\0\0\0\0\0\x10\0\0\0\0\0\0\0\xfc\x04\0\0\0\0\0\0";
 
@@ -110,8 +105,7 @@ const CHUNKS_ROWS: &str = "cartesianX,cartesianY,intensity,rowIndex,cartesianZ,t
 ";
 
 // An index packet of one entry: record 0, and the data packet at byte 80.
-const ONE_ENTRY: &[u8] =
-    b"\0\0\x1f\0\x01\0\0\0\0\0\0\0\0\0\0\0\0\0\0\0\0\0\0\0\x50\0\0\0\0\0\0\0";
+const ONE_ENTRY: &[u8] = b"\0\0\x1f\0\x01\0\0\0\0\0\0\0\0\0\0\0\0\0\0\0\0\0\0\0\x50\0\0\0\0\0\0\0";
 
 // The file of two points with an index packet behind the data, at byte 136, and so the text at byte 168.
 fn indexed_points(alloc: Global) -> Result<Vec<u8>, AllocError> {
@@ -133,8 +127,7 @@ const NO_RECORDS_TEXT: &str =
     "<e57Root type=\"Structure\"><p type=\"CompressedVector\" fileOffset=\"0\" recordCount=\"0\"><prototype type=\"Structure\"><x type=\"Integer\"/></prototype></p></e57Root>";
 
 // A section header of 32 bytes, with no packet behind it.
-const NO_PACKETS: &[u8] =
-    b"\x01\0\0\0\0\0\0\0\x20\0\0\0\0\0\0\0\x50\0\0\0\0\0\0\0\0\0\0\0\0\0\0\0";
+const NO_PACKETS: &[u8] = b"\x01\0\0\0\0\0\0\0\x20\0\0\0\0\0\0\0\x50\0\0\0\0\0\0\0\0\0\0\0\0\0\0\0";
 
 const CONSTANT_TEXT: &str =
     "<e57Root type=\"Structure\"><p type=\"CompressedVector\" fileOffset=\"48\" recordCount=\"1099511627776\"><prototype type=\"Structure\"><x type=\"Integer\" minimum=\"5\" maximum=\"5\"/></prototype></p></e57Root>";
@@ -309,9 +302,9 @@ fn the_first_word_at_fault_is_named(rt: HostRuntime) -> Result<(), Fail> {
 
 // An option that names so many fields, all different.
 fn many_names(alloc: Global, count: usize) -> Result<String, AllocError> {
-    let mut word = String::from_str(alloc, "--fields=f")?;
+    let mut word = String::from_str(alloc, "--fields=a")?;
     for i in 1..count {
-        word.push_str(&format!(in alloc; ",f{i}")?)?;
+        word.push_str(&format!(in alloc; ",a{i}")?)?;
     }
     Ok(word)
 }
@@ -379,7 +372,10 @@ fn each_failed_call_of_the_source_is_a_source_fault(rt: HostRuntime) -> Result<(
             assert!(rt; call == 4 && ended.out.bytes() == THREE_ROWS);
             return Ok(());
         }
-        assert!(rt; fails_so(&ended, Status::SourceFault, "source fault\n"), "{call}");
+        assert!(rt;
+            fails_so(&ended, Status::SourceFault, "source fault\n"),
+            "{call}"
+        );
     }
     assert!(rt; false, "no run is done");
     Ok(())
@@ -394,7 +390,10 @@ fn each_failed_put_is_an_output_fault(rt: HostRuntime) -> Result<(), Fail> {
             assert!(rt; call > 0 && ended.out.bytes() == THREE_ROWS);
             return Ok(());
         }
-        assert!(rt; fails_so(&ended, Status::OutFault, "output fault\n"), "{call}");
+        assert!(rt;
+            fails_so(&ended, Status::OutFault, "output fault\n"),
+            "{call}"
+        );
     }
     assert!(rt; false, "no run is done");
     Ok(())
