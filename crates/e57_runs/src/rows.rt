@@ -63,7 +63,7 @@ const CHUNKS: &[u8] = b"\x01\0\0\0\0\0\0\0p\x01\0\0\0\0\0\0 \x04\0\0\0\0\0\0@\x0
 \x08\0\x80?\x09\0\x80?\x0a\0\x80?\x0b\0\x80?\x0c\0\x80?\x0d\0\x80?\x0e\0\x80?\x0f\0\x80?\
 \0\x02a\x04aa\x06aaa\0\x02a\x04aa\x06aaa\0\x02a\x04aa\x06aaa\0\x02a\x04aa\x06aaa\0\0\
 \x01\x01C\0\x06\0\x0a\0\x0a\0\x04\0\0\0\x10\0\x0a\0\
-\00\x03\06\0\x90\x03\0P\0P\x05\0Z\0\xf0\x05\0\
+0\00\x03\06\0\x90\x03\0P\0P\x05\0Z\0\xf0\x05\0\
 \x10\x11\x12\x13\x10\0\x80?\x11\0\x80?\x12\0\x80?\x13\0\x80?\0\x02a\x04aa\x06aaa\0\0\
 /\0\x02\0\0\0\0\0\0\0\0\0\0\0\0\0\0\0\0\0\0\0 \x04\0\0\0\0\0\0\x10\0\0\0\0\0\0\0\xfc\x04\0\0\0\0\0\0";
 
@@ -302,9 +302,9 @@ fn the_first_word_at_fault_is_named(rt: HostRuntime) -> Result<(), Fail> {
 
 // An option that names so many fields, all different.
 fn many_names(alloc: Global, count: usize) -> Result<String, AllocError> {
-    let mut word = String::from_str(alloc, "--fields=f")?;
+    let mut word = String::from_str(alloc, "--fields=a")?;
     for i in 1..count {
-        word.push_str(&format!(in alloc; ",f{i}")?)?;
+        word.push_str(&format!(in alloc; ",a{i}")?)?;
     }
     Ok(word)
 }
