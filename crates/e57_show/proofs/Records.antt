@@ -2,7 +2,7 @@
 use Rattle.std.specs.Prelude.{IfSome, IsSomeAnd, MatchOption, MatchResult, slice_index_or, nat_lt, take, if◌then◌else◌}
 use Rattle.std.specs.List.{AllByRecursion, Contains}
 use Rattle.std.specs.Option.{option_map}
-use Rattle.std.proofs.Common.{◌≡◌, ℕ, ◌+◌, ◌*◌, ◌/◌, ◌<◌, ◌≤◌, ◌||◌, Bool, true, false, List, [], ◌∷◌, ◌++◌, length, map, slice_get, zero, suc, lit≤, length-append, Option, Some, None, Result, Ok, Err, inl, inr, refl, sym, subst, ap, ◌∙◌, arith}
+use Rattle.std.proofs.Common.{◌≡◌, ℕ, ◌+◌, ◌/◌, ◌<◌, ◌≤◌, ◌||◌, Bool, true, false, List, [], ◌∷◌, ◌++◌, length, slice_get, zero, suc, lit≤, length-append, Option, Some, None, Result, Ok, Err, inl, inr, refl, sym, subst, ap, ◌∙◌, arith}
 use Rattle.std.proofs.lemmas.Bool.{ltb-false}
 use Rattle.std.proofs.lemmas.List.{length-map, take-append-le}
 use Rattle.std.proofs.lemmas.Option.{slice_get-map, slice_get-get_or, get_or_from_slice_get}
@@ -27,20 +27,20 @@ use Rattle.e57_layout.specs.declared.field.FieldKind.TheVariants.{Int, Scaled, B
 use Rattle.e57_layout.specs.declared.field.Fixed.{Fixed}
 use Rattle.e57_layout.specs.declared.section.Section.{Section}
 use Rattle.e57_sections.specs.Section.{section_fault, section_at}
-use Rattle.e57_sections.specs.Cloud.{Leaf, fixed_of, float_from, section_of}
-use Rattle.e57_sections.specs.Met.{InSpan, InSectionHeader, OnItem, OnRecords}
+use Rattle.e57_sections.specs.Cloud.{Leaf, fixed_of, float_from}
+use Rattle.e57_sections.specs.Met.{InSpan, OnItem}
 use Rattle.e57_section.specs.Asking.{AsksSpan}
 use Rattle.e57_section.specs.AskingLaws.{rises_in_span}
-use Rattle.e57_section.specs.Opening.{header_place, header_within, AsksHeader, OpensSection, OpensNoSection, IsSectionCause, is_section_kind}
+use Rattle.e57_section.specs.Opening.{header_within, AsksHeader, OpensSection, IsSectionCause, is_section_kind}
 use Rattle.e57_ahead.specs.Counting.{IsWidth}
 use Rattle.e57_stream.specs.Asking.{AsksMet}
-use Rattle.e57_stream.specs.AskingLaws.{all_map, asks_met_none, asks_met_on, asks_met_map}
+use Rattle.e57_stream.specs.AskingLaws.{all_map, asks_met_on, asks_met_map}
 use Rattle.e57_column.specs.Finding.{is_column_kind}
 use Rattle.e57_nodes.specs.Items.{leaves_of}
 use Rattle.e57_rows.specs.Rows.{asked_of, leaf_of, field_at, no_field, heading_text, rows_text, rows_fault}
 use Rattle.e57_rows.specs.Putting.{Slice, OnSlice, PutsRows, FailsRows, IsRowsCause, slice_text, slice_fault}
 use Rattle.e57_show.specs.Extract.{Selection, stated, selected_row, selected_rows, selected_text, selected_fault, is_rows_kind, IsMetBy}
-use Rattle.e57_show.specs.Extracting.{selection_streamed, AsksSelected, PutsAllRows, PutsFirstRows, PutsRecords, FailsRecords}
+use Rattle.e57_show.specs.Extracting.{selection_streamed, AsksSelected, PutsFirstRows, PutsRecords, FailsRecords}
 use Rattle.e57_show.specs.Streaming.{StreamEnds, IsWhole, PutsFront}
 use Rattle.e57_show.proofs.Pieces.{grows_none}
 use Rattle.e57_show.proofs.Putting.{grows-on, front-on}

@@ -1,18 +1,17 @@
 -- The rows of a cloud are those of its section, where that has no fault; else its first record has that fault.
-use Rattle.std.proofs.Common.{◌≡◌, ℕ, zero, suc, ◌+◌, ◌<◌, List, [], ◌∷◌, ◌++◌, length, map, Option, Some, None, Result, Ok, Err, refl, sym, ap, subst, ◌∙◌, arith}
+use Rattle.std.proofs.Common.{◌≡◌, ℕ, zero, suc, ◌+◌, ◌<◌, List, [], ◌∷◌, length, Some, None, Result, Ok, Err, refl, sym, ap, ◌∙◌, arith}
 use Rattle.std.proofs.lemmas.List.{length-map}
 use Rattle.e57_base.specs.declared.fault.Fault.{Fault}
 use Rattle.e57_layout.specs.Values.{item_kind, Value}
 use Rattle.e57_layout.specs.declared.field.Field.{Field}
-use Rattle.e57_layout.specs.declared.field.Fixed.{Fixed}
 use Rattle.e57_layout.specs.declared.section.Section.{Section}
 use Rattle.e57_sections.specs.Section.{section_fault, section_at}
 use Rattle.e57_sections.specs.Cloud.{Leaf, Cloud, fixed_of, section_of, float_from}
-use Rattle.e57_sections.specs.PathItem.{unless, and_then, item_of, path_item}
+use Rattle.e57_sections.specs.PathItem.{and_then, item_of, path_item}
 use Rattle.e57_column.specs.CloudLaws.{item_of-cloud}
 use Rattle.e57_nodes.specs.Items.{leaves_of}
-use Rattle.e57_rows.specs.Cells.{cell, csv_row}
-use Rattle.e57_rows.specs.Rows.{asked_of, cells_of, section_row, rows_text, rows_fault, text_before, fault_before}
+use Rattle.e57_rows.specs.Cells.{csv_row}
+use Rattle.e57_rows.specs.Rows.{asked_of, cells_of, section_row, rows_text, rows_fault}
 use Rattle.e57_rows.specs.Putting.{Slice, slice_text, slice_fault}
 use Rattle.e57_show.specs.Extract.{Selection, stated, cloud_row, selected_row, selected_rows, selected_fault}
 

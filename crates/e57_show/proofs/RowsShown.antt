@@ -1,14 +1,13 @@
 -- How `extract` ends, and what it asks for, from its steps.
 use Rattle.std.specs.Prelude.{IfSome, IfErr, IsErrAnd, MatchResult}
 use Rattle.std.specs.List.{AllByRecursion}
-use Rattle.std.proofs.Common.{◌≡◌, ◌⊎◌, ℕ, ◌*◌, ◌/◌, ◌≤◌, ◌||◌, Bool, true, false, List, [], ◌++◌, slice_get, Option, Some, None, Result, Ok, Err, inl, inr, refl, sym, subst, ap, ◌∙◌}
+use Rattle.std.proofs.Common.{◌≡◌, ℕ, ◌≤◌, true, false, List, [], Option, Some, None, Result, Ok, Err, inl, inr, refl, sym, subst, ◌∙◌}
 use Rattle.std.proofs.lemmas.List.{append-nil}
-use Rattle.e57_base.specs.Count.{Rose, rose_before}
+use Rattle.e57_base.specs.Count.{rose_before}
 use Rattle.e57_base.specs.Source.{SourceView}
 use Rattle.e57_base.specs.Sink.{SinkView}
 use Rattle.e57_base.specs.Told.{told_map, told_both, told_here}
 use Rattle.e57_base.specs.Fault.{open_as_run}
-use Rattle.e57_base.specs.declared.fault.Fault.{Fault}
 use Rattle.e57_base.specs.declared.fault.AskFault.{AskFault}
 use Rattle.e57_base.specs.declared.fault.OpenFault.{OpenFault}
 use Rattle.e57_base.specs.declared.fault.OpenFault.TheVariants as of_open
@@ -18,17 +17,15 @@ use Rattle.e57_base.specs.declared.kind.Kind.{Kind}
 use Rattle.e57_base.specs.declared.kind.Kind.TheVariants.{XmlPlace, XmlLimit}
 use Rattle.e57_page.specs.Pages.{Reading, AsksFor}
 use Rattle.e57_page.specs.PagesLaws.{asks_for_on}
-use Rattle.e57_layout.specs.declared.field.Field.{Field}
 use Rattle.e57_elements.specs.declared.tree.RawNode.{RawNode}
-use Rattle.e57_elements.specs.Tree.{Element, preorder}
-use Rattle.e57_tree.specs.Held.{cloud_fields}
+use Rattle.e57_elements.specs.Tree.{Element}
 use Rattle.e57_file.specs.Text.{AsksForXml, section_text, is_place_kind}
-use Rattle.e57_file.specs.Opened.{HasNodes, IsTreeFault, IsOpenCause}
+use Rattle.e57_file.specs.Opened.{HasNodes, IsOpenCause}
 use Rattle.e57_show.specs.declared.select.Selected.{Selected}
 use Rattle.e57_show.specs.Opening.{IsPastPlace}
-use Rattle.e57_show.specs.Streaming.{IsWhole, PutsAll, PutsFront, PutsSome, StreamEnds}
+use Rattle.e57_show.specs.Streaming.{IsWhole, PutsSome, StreamEnds}
 use Rattle.e57_show.specs.Extract.{Asked, Selection, select, Selects, LacksAsked, selected_text, selected_fault, IsRowsFault, IsRowsOutput, is_rows_kind, rows_streamed, IsMetBy, AreRowsPages, AsksForRows}
-use Rattle.e57_show.specs.Extracting.{selection_of, IsOfCloud, IsSelected, IsUnselected, OfFields, selection_streamed, AsksSelected}
+use Rattle.e57_show.specs.Extracting.{selection_of, IsSelected, IsUnselected, selection_streamed, AsksSelected}
 use Rattle.e57_show.proofs.Showing.{IsEither, IsOneTree, no_tree_fault}
 
 -- ---- what is asked for

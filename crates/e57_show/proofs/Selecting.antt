@@ -25,7 +25,7 @@ use Rattle.e57_nodes.specs.Shape.{node_count}
 use Rattle.e57_tree.specs.declared.items.Cloud.{Cloud}
 use Rattle.e57_tree.specs.Held.{clouds_among, clouds_of, cloud_fields}
 use Rattle.e57_file.specs.Opened.{field_number}
-use Rattle.e57_show.specs.Extract.{Asked, Selection, names_in, with_number, by_number, numbers_from, numbers_of, asked_end, asked_count, select_records, select, is_rows_ask}
+use Rattle.e57_show.specs.Extract.{Asked, Selection, names_in, with_number, by_number, numbers_from, numbers_of, asked_end, asked_count, select_records, select}
 use Rattle.e57_show.specs.declared.select.Selected.{Selected}
 use Rattle.e57_show.specs.Extracting.{IsSelected, IsUnselected, LacksName, LacksField}
 

@@ -1,5 +1,4 @@
-use Rattle.std.specs.Prelude.{MatchResult, Some, None}
-use Rattle.std.proofs.Common.{◌≡◌, ◌∙◌, sym, subst}
+use Rattle.std.specs.Prelude.{Some, None}
 use Rattle.e57_show.specs.Extract.{asked_by, rows_streamed}
 use Rattle.e57_show.specs.Extracting.{selection_of}
 use Rattle.e57_show.specs.Streaming.{StreamEnds}

@@ -1,13 +1,11 @@
 use Rattle.std.specs.Prelude.{MatchResult}
 use Rattle.std.specs.List.{AllByRecursion}
-use Rattle.std.proofs.Common.{◌≡◌, ◌+◌, ◌*◌, ◌/◌, ◌<◌, ◌≤◌, ℕ, List, length, refl, sym, subst, ◌∙◌, arith}
-use Rattle.e57_base.specs.Fault.{read_as_run}
+use Rattle.std.proofs.Common.{◌*◌, ◌/◌, ◌<◌, ℕ, List, length, sym, subst, arith}
 use Rattle.e57_base.specs.declared.fault.RunFault.{RunFault}
 use Rattle.e57_rows.specs.Putting.{Slice, OnSlice, PutsRows, FailsRows}
 use Rattle.e57_show.specs.Extracting.{selection_of, FailsRecords}
 use Rattle.e57_show.proofs.BlobShown.{told_size}
 use Rattle.e57_show.proofs.Records.{records-none, opening-met, opened-met, rows-met, section-lost, rows-put, fixed-in, section-of, given-slice, met-of}
-use Rattle.e57_show.proofs.Rowing.{slice_of}
 use Rattle.e57_show.proofs.rows.put_records.Goals as goal
 
 pub returns-then-count-eq0-clause-puts : goal.returns-then-count-eq0-clause-puts

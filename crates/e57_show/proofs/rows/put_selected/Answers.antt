@@ -1,4 +1,4 @@
-use Rattle.std.proofs.Common.{◌≡◌, ◌∙◌, sym, subst, ap, List, ℕ}
+use Rattle.std.proofs.Common.{◌∙◌, subst, ap, List, ℕ}
 use Rattle.std.specs.Prelude.{MatchResult, Some, None}
 use Rattle.e57_base.specs.Sink.{Grows, GrowsByFront}
 use Rattle.e57_base.specs.declared.fault.RunFault.TheVariants.{Out}

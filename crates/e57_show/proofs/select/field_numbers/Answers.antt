@@ -1,4 +1,4 @@
-use Rattle.std.proofs.Common.{◌≡◌, ◌∙◌, ap, map, List, ℕ}
+use Rattle.std.proofs.Common.{◌∙◌, ap, map}
 use Rattle.e57_show.proofs.Selecting.{listed-numbers}
 use Rattle.e57_show.proofs.select.field_numbers.Goals as goal
 

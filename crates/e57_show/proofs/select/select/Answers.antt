@@ -1,7 +1,4 @@
-use Rattle.std.proofs.Common.{◌≡◌, ◌∙◌, ◌<◌, ◌≤◌, List, ℕ, length, slice_index_or, sym, subst, refl, arith}
-use Rattle.std.specs.Prelude.{MatchResult}
-use Rattle.e57_elements.specs.Tree.{Element, preorder}
-use Rattle.e57_base.specs.declared.fault.RunFault.{RunFault}
+use Rattle.std.proofs.Common.{◌∙◌, subst, refl, arith}
 use Rattle.e57_show.specs.Extract.{asked_by}
 use Rattle.e57_show.specs.Extracting.{IsSelected, IsUnselected}
 use Rattle.e57_show.proofs.Putting.{by_error}
