@@ -14,14 +14,14 @@ plain : (setup : WriterBuilder) → setup ≡ default_writer → setup.style ≢
 plain setup is = rw is (λ e. cc e)
 
 -- one more cell
-cell_more : {W : Type 0} (contents : W → Option (List ℕ)) (old new : Writer W) (text : List ℕ)
+pub text_more : {W : Type 0} (contents : W → Option (List ℕ)) (old new : Writer W) (text : List ℕ)
     → ((writer_setup old).style ≢ style.NonNumeric → Appends (text_written contents old) (text_written contents new) (next_sep (writer_setup old) (fields_written old) ++ field_text (writer_setup old) text))
     → writer_setup new ≡ writer_setup old
     → fields_written new ≡ min (fields_written old + 1) (2 ^ 64 - 1)
     → (has_written old ≡ false → (writer_setup old).style ≢ style.NonNumeric → has_written new ≡ not (length (field_text (writer_setup old) text) == 0))
     → (has_written old ≡ true → has_written new ≡ true)
     → (base : Option (List ℕ)) (cells : List (List ℕ)) → length cells + 1 < 2 ^ 64 → InRow contents base cells old → InRow contents base (cells ++ text ∷ []) new
-cell_more contents old new text appends same count wrote stays base cells few row =
+text_more contents old new text appends same count wrote stays base cells few row =
     let numbers = plain (writer_setup old) row.setup in
     let long : length (cells ++ text ∷ []) ≡ length cells + 1 = length-append cells (text ∷ []) in
     let piece = rw (row.setup, row.count) at (appends numbers) in
@@ -33,30 +33,16 @@ cell_more contents old new text appends same count wrote stays base cells few ro
       blank = rw long (blank-more default_writer cells text (has_written old) (has_written new) row.blank (λ none. rw row.setup at (wrote none numbers)) stays);
     }
 
-pub text_on : {W T E : Type 0} (contents : W → Option (List ℕ)) (old new : Writer W) (text : List ℕ) (result : Result T E)
-    → OnOk result ((writer_setup old).style ≢ style.NonNumeric → Appends (text_written contents old) (text_written contents new) (next_sep (writer_setup old) (fields_written old) ++ field_text (writer_setup old) text))
-    → OnOk result (writer_setup new ≡ writer_setup old)
-    → OnOk result (fields_written new ≡ min (fields_written old + 1) (2 ^ 64 - 1))
-    → OnOk result (has_written old ≡ false → (writer_setup old).style ≢ style.NonNumeric → has_written new ≡ not (length (field_text (writer_setup old) text) == 0))
-    → OnOk result (has_written old ≡ true → has_written new ≡ true)
-    → (base : Option (List ℕ)) (cells : List (List ℕ)) → length cells + 1 < 2 ^ 64 → InRow contents base cells old → OnOk result (InRow contents base (cells ++ text ∷ []) new)
-text_on contents old new text (Ok x) appends same count wrote stays base cells few row = cell_more contents old new text appends same count wrote stays base cells few row
-text_on contents old new text (Err e) appends same count wrote stays base cells few row = tt
-
 -- a row's end
-pub row_on : {W T E : Type 0} (contents : W → Option (List ℕ)) (old new : Writer W) (result : Result T E)
-    → OnOk result (Appends (text_written contents old) (text_written contents new) (tail_text (writer_setup old) (has_written old) (fields_written old)))
-    → OnOk result (fields_written new ≡ 0)
-    → OnOk result (has_written new ≡ false)
-    → OnOk result (writer_setup new ≡ writer_setup old)
-    → (base : Option (List ℕ)) (cells : List (List ℕ)) → InRow contents base cells old → OnOk result (AtRow contents base (csv_row cells) new)
-row_on contents old new (Ok x) appends count clean same base cells row = record {
+pub row_ends : {W : Type 0} (contents : W → Option (List ℕ)) (old new : Writer W)
+    → Appends (text_written contents old) (text_written contents new) (tail_text (writer_setup old) (has_written old) (fields_written old)) → fields_written new ≡ 0 → has_written new ≡ false → writer_setup new ≡ writer_setup old
+    → (base : Option (List ℕ)) (cells : List (List ℕ)) → InRow contents base cells old → AtRow contents base (csv_row cells) new
+row_ends contents old new appends count clean same base cells row = record {
   setup = same ∙ row.setup;
   text = row-final base (text_written contents old) (text_written contents new) default_writer cells (has_written old) (length cells) row.text row.blank (rw (row.setup, row.count) at appends);
   count = count;
   clean = clean;
 }
-row_on contents old new (Err e) appends count clean same base cells row = tt
 
 -- a row begins behind whole rows
 pub row_begins : {W : Type 0} (contents : W → Option (List ℕ)) (base : Option (List ℕ)) (rows : List ℕ) (writer : Writer W) → AtRow contents base rows writer → InRow contents (text_written contents writer) [] writer

@@ -5,22 +5,26 @@ ghost use Rattle.e57_rows.specs.Cells.{csv_row, item_text};
 ghost use Rattle.e57_rows.specs.Writing.{AtRow, InRow};
 
 use crate::hexadecimal::{digits32, digits64};
-use csv::{Error, Writer};
+use csv::Writer;
 use e57_records::Item;
 use itoa::Buffer;
+use std::alloc::AllocError;
 use std::io::Write;
 
 /// Writes a text as the next cell of a row.
 #[inline]
-pub fn write_text<W: Write + Drop>(writer: &mut Writer<W>, text: &[u8]) -> Result<(), Error>
+pub fn write_text<W: Write + Drop>(writer: &mut Writer<W>, text: &[u8]) -> Result<(), AllocError>
     ensures { (base : Option (List ℕ)) → (cells : List (List ℕ)) → length cells + 1 < 2 ^ 64 → InRow W.contents base cells writer.old → OnOk result (InRow W.contents base (cells ++ text.now ∷ []) writer.new) }
 {
-    writer.write_field(text)
+    match writer.write_field(text) {
+        Ok(()) => Ok(()),
+        Err(_full) => Err(AllocError),
+    }
 }
 
 /// Writes an item as the next cell of a row.
 #[inline]
-pub fn write_item<W: Write + Drop>(writer: &mut Writer<W>, item: Item<'_>) -> Result<(), Error>
+pub fn write_item<W: Write + Drop>(writer: &mut Writer<W>, item: Item<'_>) -> Result<(), AllocError>
     ensures { (base : Option (List ℕ)) → (cells : List (List ℕ)) → length cells + 1 < 2 ^ 64 → InRow W.contents base cells writer.old → OnOk result (InRow W.contents base (cells ++ item_text item.entry ∷ []) writer.new) }
 {
     match item {
@@ -36,8 +40,11 @@ pub fn write_item<W: Write + Drop>(writer: &mut Writer<W>, item: Item<'_>) -> Re
 
 /// Ends a row.
 #[inline]
-pub fn end_row<W: Write + Drop>(writer: &mut Writer<W>) -> Result<(), Error>
+pub fn end_row<W: Write + Drop>(writer: &mut Writer<W>) -> Result<(), AllocError>
     ensures { (base : Option (List ℕ)) → (cells : List (List ℕ)) → InRow W.contents base cells writer.old → OnOk result (AtRow W.contents base (csv_row cells) writer.new) }
 {
-    writer.end_record()
+    match writer.end_record() {
+        Ok(()) => Ok(()),
+        Err(_full) => Err(AllocError),
+    }
 }

@@ -6,7 +6,7 @@ ghost use Rattle.e57_rows.specs.Rows.{heading_text};
 ghost use Rattle.e57_rows.specs.Writing.{AtRow};
 
 use crate::cell::{end_row, write_text};
-use csv::{Error, Writer};
+use csv::Writer;
 use e57_layout::Field;
 use std::alloc::{AllocError, Global};
 use std::io::Write;
@@ -17,13 +17,10 @@ pub fn heading(alloc: Global, fields: &[Field], asked: &[u16]) -> Result<Vec<u8>
     ensures { IfOk result (λ text. text.items ≡ heading_text fields.now asked.now) }
 {
     let mut writer = Writer::from_writer(Vec::new(alloc));
-    match write_paths(&mut writer, fields, asked) {
-        Ok(()) => {}
-        Err(_) => return Err(AllocError),
-    }
+    write_paths(&mut writer, fields, asked)?;
     match writer.into_inner() {
         Ok(text) => Ok(text),
-        Err(_) => Err(AllocError),
+        Err(_full) => Err(AllocError),
     }
 }
 
@@ -32,7 +29,7 @@ fn write_paths<W: Write + Drop>(
     writer: &mut Writer<W>,
     fields: &[Field],
     asked: &[u16],
-) -> Result<(), Error>
+) -> Result<(), AllocError>
     requires { AllByRecursion (λ f. f < length fields.now) asked.now }
     ensures { (base : Option (List ℕ)) → AtRow W.contents base [] writer.old → OnOk result (AtRow W.contents base (heading_text fields.now asked.now) writer.new) }
 {

@@ -6,7 +6,7 @@ ghost use Rattle.e57_rows.specs.Blocks.{HasRecords, held_row, held_rows};
 ghost use Rattle.e57_rows.specs.Writing.{AtRow, InRow};
 
 use crate::cell::{end_row, write_item};
-use csv::{Error, Writer};
+use csv::Writer;
 use e57_records::FieldBlock;
 use std::alloc::AllocError;
 use std::io::Write;
@@ -26,13 +26,10 @@ pub fn rows_of(
     let mut room = room;
     room.clear();
     let mut writer = Writer::from_writer(room);
-    match write_rows(&mut writer, blocks, i, n) {
-        Ok(()) => {}
-        Err(_) => return Err(AllocError),
-    }
+    write_rows(&mut writer, blocks, i, n)?;
     match writer.into_inner() {
         Ok(text) => Ok(text),
-        Err(_) => Err(AllocError),
+        Err(_full) => Err(AllocError),
     }
 }
 
@@ -42,7 +39,7 @@ fn write_rows<W: Write + Drop>(
     blocks: &[FieldBlock],
     i: u64,
     n: usize,
-) -> Result<(), Error>
+) -> Result<(), AllocError>
     requires fits { i + n < 2 ^ 64 }
     requires have { AllByRecursion (HasRecords i n) blocks.now }
     ensures { (base : Option (List ℕ)) → AtRow W.contents base [] writer.old → OnOk result (AtRow W.contents base (held_rows blocks.now i n) writer.new) }
@@ -59,7 +56,7 @@ fn write_row<W: Write + Drop>(
     writer: &mut Writer<W>,
     blocks: &[FieldBlock],
     i: u64,
-) -> Result<(), Error>
+) -> Result<(), AllocError>
     requires have { AllByRecursion (HasRecords i 1) blocks.now }
     ensures { (base : Option (List ℕ)) → (text : List ℕ) → AtRow W.contents base text writer.old → OnOk result (AtRow W.contents base (text ++ held_row blocks.now i) writer.new) }
 {

@@ -1,7 +1,7 @@
-use Rattle.e57_rows.proofs.Writing.{row_on}
+use Rattle.e57_rows.proofs.Writing.{row_ends}
 use Rattle.e57_rows.proofs.cell.end_row.Goals as goal
 
-pub returns : goal.returns
-returns g c = λ base cells row.
-    let ends = c.end_record.ensures in
-    row_on g.W.Write.contents c.args.writer.now c.end_record.new.self c.end_record.result ends.bytes ends.fields ends.wrote ends.same base cells row
+pub returns-in-Ok : goal.returns-in-Ok
+returns-in-Ok g c = λ base cells row.
+    let ends = c.in-Ok.ensures in
+    row_ends g.W.Write.contents c.args.writer.now c.end_record.new.self ends.bytes ends.fields ends.wrote ends.same base cells row

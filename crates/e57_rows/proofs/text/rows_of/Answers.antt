@@ -3,7 +3,7 @@ use Rattle.e57_rows.specs.Blocks.{held_rows}
 use Rattle.e57_rows.proofs.Writing.{whole_text}
 use Rattle.e57_rows.proofs.text.rows_of.Goals as goal
 
-pub returns-in-Ok-into_inner : goal.returns-in-Ok-into_inner
-returns-in-Ok-into_inner c =
+pub returns-in-Ok : goal.returns-in-Ok
+returns-in-Ok c =
     let from = c.from_writer-writer.ensures in
-    whole_text (λ v. Some v.items) c.from_writer-writer.result c.write_rows.new.writer c.in-Ok-into_inner.text.items (held_rows c.args.blocks.now c.args.i c.args.n) from.cfg from.fields from.wrote (rw (from.wtr, from.empty, c.clear.ensures.items) refl) (λ base at_row. c.in-Ok.ensures base at_row) c.in-Ok-into_inner.ensures.ok
+    whole_text (λ v. Some v.items) c.from_writer-writer.result c.write_rows.new.writer c.in-Ok.text.items (held_rows c.args.blocks.now c.args.i c.args.n) from.cfg from.fields from.wrote (rw (from.wtr, from.empty, c.clear.ensures.items) refl) (λ base at_row. c.in_ok-write_rows.ensures base at_row) c.in-Ok.ensures.ok
