@@ -11,6 +11,3 @@ mod text;
 
 pub use paths::heading;
 pub use put::put_rows;
-
-#[cfg(test)]
-mod tests;
