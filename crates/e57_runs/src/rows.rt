@@ -237,13 +237,18 @@ fn run_rows(alloc: Global, words: &[&str], bytes: Vec<u8>) -> Result<Ended, Allo
     run_on(alloc, &all, bytes)
 }
 
+// The run of a case ended so, and asked for these pages.
+fn ends_so(alloc: Global, case: &Case) -> Result<bool, AllocError> {
+    let (content, words, status, out, err, asked) = case;
+    let ended = run_rows(alloc, words, bytes_of(alloc, *content)?)?;
+    Ok(ended.is(*status, out.as_bytes(), err.as_bytes()) && ended.asked_for(asked))
+}
+
 #[test]
 fn extract_puts_the_asked_rows(rt: HostRuntime) -> Result<(), Fail> {
     let alloc = rt.alloc();
-    for (content, words, status, out, err, asked) in &CASES {
-        let ended = run_rows(alloc, words, bytes_of(alloc, *content)?)?;
-        let is_so = ended.is(*status, out.as_bytes(), err.as_bytes()) && ended.asked_for(asked);
-        assert!(rt; is_so, "{out}{err}");
+    for (k, case) in CASES.iter().enumerate() {
+        assert!(rt; ends_so(alloc, case)?, "row {k}");
     }
     Ok(())
 }
@@ -290,12 +295,18 @@ const WORDS: [WordsCase; 33] = [
     (&["extract", "absent", "0"], Status::SourceFault, "source fault\n"),
 ];
 
+// The run of these words ended so, and put nothing.
+fn is_refused_so(alloc: Global, case: &WordsCase) -> Result<bool, AllocError> {
+    let (words, status, err) = case;
+    let ended = run_on(alloc, words, three_records(alloc)?)?;
+    Ok(ended.is(*status, b"", err.as_bytes()))
+}
+
 #[test]
 fn the_first_word_at_fault_is_named(rt: HostRuntime) -> Result<(), Fail> {
     let alloc = rt.alloc();
-    for (words, status, err) in &WORDS {
-        let ended = run_on(alloc, words, three_records(alloc)?)?;
-        assert!(rt; ended.is(*status, b"", err.as_bytes()), "{err}");
+    for (k, case) in WORDS.iter().enumerate() {
+        assert!(rt; is_refused_so(alloc, case)?, "row {k}");
     }
     Ok(())
 }
@@ -452,18 +463,22 @@ const NUMBERS: [NumbersCase; 7] = [
     (Some(3), &["0", "--from=498", "--count=4"], Status::Refused, "x\n000001f2\n000001f3\n", "refused Page 3 0\n", 7),
 ];
 
+// The run of a case ended so, and didn't ask for this page.
+fn leaves_page(alloc: Global, case: &NumbersCase) -> Result<bool, AllocError> {
+    let (wrong, words, status, out, err, other) = case;
+    let mut bytes = numbers(alloc)?;
+    if let Some(page) = wrong {
+        bytes = changed(bytes, page.wrapping_mul(1024));
+    }
+    let ended = run_rows(alloc, words, bytes)?;
+    Ok(ended.is(*status, out.as_bytes(), err.as_bytes()) && !ended.source.asked().contains(other))
+}
+
 #[test]
 fn pages_of_other_chunks_arent_asked_for(rt: HostRuntime) -> Result<(), Fail> {
     let alloc = rt.alloc();
-    for (wrong, words, status, out, err, other) in &NUMBERS {
-        let mut bytes = numbers(alloc)?;
-        if let Some(page) = wrong {
-            bytes = changed(bytes, page.wrapping_mul(1024));
-        }
-        let ended = run_rows(alloc, words, bytes)?;
-        let is_so = ended.is(*status, out.as_bytes(), err.as_bytes())
-            && !ended.source.asked().contains(other);
-        assert!(rt; is_so, "{out}{err}");
+    for (k, case) in NUMBERS.iter().enumerate() {
+        assert!(rt; leaves_page(alloc, case)?, "row {k}");
     }
     Ok(())
 }
