@@ -14,57 +14,57 @@ use Rattle.e57_page.specs.PagesLaws.{asks_for_none}
 use Rattle.e57_page.specs.Fetch.{IsPage, AreKept, IsSound, unless_kept}
 
 -- in its place page n is kept, or another page of that place
-kept_same : (kept : List ℕ) (n k : ℕ) → length kept ≡ 72 → k % 72 ≡ n % 72 → is_kept (slice_set kept (n % 72) n) k ≡ (k == n)
+kept_same : (kept : List ℕ) (n k : ℕ) → length kept ≡ 144 → k % 144 ≡ n % 144 → is_kept (slice_set kept (n % 144) n) k ≡ (k == n)
 kept_same kept n k long same =
-    let fits : n % 72 < length kept = omega arith in
-    ap (λ (place : ℕ). k == get_or (set kept (n % 72) n) place 0) same ∙ ap (λ (number : ℕ). k == number) (get_or-set_same kept (n % 72) n 0 fits)
+    let fits : n % 144 < length kept = omega arith in
+    ap (λ (place : ℕ). k == get_or (set kept (n % 144) n) place 0) same ∙ ap (λ (number : ℕ). k == number) (get_or-set_same kept (n % 144) n 0 fits)
 
-kept_other : (kept : List ℕ) (n k : ℕ) → k % 72 ≢ n % 72 → is_kept (slice_set kept (n % 72) n) k ≡ is_kept kept k
-kept_other kept n k other = ap (λ (number : ℕ). k == number) (get_or-set_other kept (n % 72) (k % 72) n 0 other)
+kept_other : (kept : List ℕ) (n k : ℕ) → k % 144 ≢ n % 144 → is_kept (slice_set kept (n % 144) n) k ≡ is_kept kept k
+kept_other kept n k other = ap (λ (number : ℕ). k == number) (get_or-set_other kept (n % 144) (k % 144) n 0 other)
 
 same_number : (n : ℕ) → (n == n) ≡ true
 same_number n = grind (arith, nat_tests)
 
 -- two pages have the same place, or not
-cases_place : (k n : ℕ) → (k % 72 ≡ n % 72) ⊎ (k % 72 ≢ n % 72)
+cases_place : (k n : ℕ) → (k % 144 ≡ n % 144) ⊎ (k % 144 ≢ n % 144)
 cases_place k n =
     ⊎_elim
-    (λ (below : k % 72 < n % 72). inr (λ same. absurd (omega arith)))
-    (λ (not_below : n % 72 ≤ k % 72).
+    (λ (below : k % 144 < n % 144). inr (λ same. absurd (omega arith)))
+    (λ (not_below : n % 144 ≤ k % 144).
     ⊎_elim
-    (λ (above : n % 72 < k % 72). inr (λ same. absurd (omega arith)))
-    (λ (not_above : k % 72 ≤ n % 72). inl (omega arith))
-    (cases_lt (n % 72) (k % 72)))
-    (cases_lt (k % 72) (n % 72))
+    (λ (above : n % 144 < k % 144). inr (λ same. absurd (omega arith)))
+    (λ (not_above : k % 144 ≤ n % 144). inl (omega arith))
+    (cases_lt (n % 144) (k % 144)))
+    (cases_lt (k % 144) (n % 144))
 
 -- page n is written into its place, since no later page of the range stands there
-module _ (kept : List ℕ) (n high : ℕ) (long : length kept ≡ 72) (free : is_later kept n high ≡ false) where
-  set_last : (k : ℕ) → k < n + 1 → high ≤ k + 72 → n < high → (n ≤ k) ⊎ (is_kept kept k ≡ true) → is_kept (slice_set kept (n % 72) n) k ≡ true
-  set_last k below near inside (inl from) = let same : k ≡ n = omega arith in subst (λ (m : ℕ). is_kept (slice_set kept (n % 72) n) m ≡ true) (sym same) (kept_same kept n n long refl ∙ same_number n)
+module _ (kept : List ℕ) (n high : ℕ) (long : length kept ≡ 144) (free : is_later kept n high ≡ false) where
+  set_last : (k : ℕ) → k < n + 1 → high ≤ k + 144 → n < high → (n ≤ k) ⊎ (is_kept kept k ≡ true) → is_kept (slice_set kept (n % 144) n) k ≡ true
+  set_last k below near inside (inl from) = let same : k ≡ n = omega arith in subst (λ (m : ℕ). is_kept (slice_set kept (n % 144) n) m ≡ true) (sym same) (kept_same kept n n long refl ∙ same_number n)
   set_last k below near inside (inr held) =
       ⊎_elim
-      (λ (same : k % 72 ≡ n % 72). let here : k ≡ n = omega arith in subst (λ (m : ℕ). is_kept (slice_set kept (n % 72) n) m ≡ true) (sym here) (kept_same kept n n long refl ∙ same_number n))
-      (λ (other : k % 72 ≢ n % 72). kept_other kept n k other ∙ held)
+      (λ (same : k % 144 ≡ n % 144). let here : k ≡ n = omega arith in subst (λ (m : ℕ). is_kept (slice_set kept (n % 144) n) m ≡ true) (sym here) (kept_same kept n n long refl ∙ same_number n))
+      (λ (other : k % 144 ≢ n % 144). kept_other kept n k other ∙ held)
       (cases_place k n)
 
-  set_later : (k : ℕ) → n + 1 ≤ k → k < high → is_kept (slice_set kept (n % 72) n) k ≡ is_kept kept k
+  set_later : (k : ℕ) → n + 1 ≤ k → k < high → is_kept (slice_set kept (n % 144) n) k ≡ is_kept kept k
   set_later k above below =
       ⊎_elim
-      (λ (same : k % 72 ≡ n % 72). kept_same kept n k long same ∙ unequal (slice_index kept (n % 72)) k above below same free ∙ sym (ap (λ (place : ℕ). k == slice_index kept place) same))
-      (λ (other : k % 72 ≢ n % 72). kept_other kept n k other)
+      (λ (same : k % 144 ≡ n % 144). kept_same kept n k long same ∙ unequal (slice_index kept (n % 144)) k above below same free ∙ sym (ap (λ (place : ℕ). k == slice_index kept place) same))
+      (λ (other : k % 144 ≢ n % 144). kept_other kept n k other)
       (cases_place k n)
     where
-      unequal : (number k : ℕ) → n + 1 ≤ k → k < high → k % 72 ≡ n % 72 → (nat_le (n + 72) number && nat_lt number high) ≡ false → (k == n) ≡ (k == number)
+      unequal : (number k : ℕ) → n + 1 ≤ k → k < high → k % 144 ≡ n % 144 → (nat_le (n + 144) number && nat_lt number high) ≡ false → (k == n) ≡ (k == number)
       unequal number k above below same not_later = grind (arith, nat_tests)
 
-  set_no_other : (k : ℕ) → is_kept (slice_set kept (n % 72) n) k ≡ true → (is_kept kept k ≡ true) ⊎ ((n ≤ k) × (k < n + 1))
+  set_no_other : (k : ℕ) → is_kept (slice_set kept (n % 144) n) k ≡ true → (is_kept kept k ≡ true) ⊎ ((n ≤ k) × (k < n + 1))
   set_no_other k held =
       ⊎_elim
-      (λ (same : k % 72 ≡ n % 72). let here : k ≡ n = eqb-true k n (sym (kept_same kept n k long same) ∙ held) in inr (omega arith, omega arith))
-      (λ (other : k % 72 ≢ n % 72). inl (sym (kept_other kept n k other) ∙ held))
+      (λ (same : k % 144 ≡ n % 144). let here : k ≡ n = eqb-true k n (sym (kept_same kept n k long same) ∙ held) in inr (omega arith, omega arith))
+      (λ (other : k % 144 ≢ n % 144). inl (sym (kept_other kept n k other) ∙ held))
       (cases_place k n)
 
-  pub keeps_set : n < high → KeepsTo kept n (n + 1) high (slice_set kept (n % 72) n)
+  pub keeps_set : n < high → KeepsTo kept n (n + 1) high (slice_set kept (n % 144) n)
   keeps_set inside =
       record {
         last = λ k below near held. set_last k below near inside held;
@@ -76,12 +76,12 @@ module _ (kept : List ℕ) (n high : ℕ) (long : length kept ≡ 72) (free : is
 keeps_left : (kept : List ℕ) (n high : ℕ) → is_later kept n high ≡ true → KeepsTo kept n (n + 1) high kept
 keeps_left kept n high later =
     record {
-      last = λ k below near held. ⊎_elim (λ (from : n ≤ k). absurd (none_near (slice_index kept (n % 72)) k below from near later)) (λ (was : is_kept kept k ≡ true). was) held;
+      last = λ k below near held. ⊎_elim (λ (from : n ≤ k). absurd (none_near (slice_index kept (n % 144)) k below from near later)) (λ (was : is_kept kept k ≡ true). was) held;
       later = λ k above below. refl;
       no_other = λ k held. inl held;
     }
   where
-    none_near : (number k : ℕ) → k < n + 1 → n ≤ k → high ≤ k + 72 → (nat_le (n + 72) number && nat_lt number high) ≡ true → ⊥
+    none_near : (number k : ℕ) → k < n + 1 → n ≤ k → high ≤ k + 144 → (nat_le (n + 144) number && nat_lt number high) ≡ true → ⊥
     none_near number k below from near later = grind (arith, nat_tests)
 
 -- page n was kept already
@@ -94,15 +94,15 @@ keeps_kept kept n high held =
     }
 
 -- page n was read
-pub keeps_read : (kept now : List ℕ) (n high : ℕ) → length kept ≡ 72 → n < high → now ≡ numbers_with kept n high → KeepsTo kept n (n + 1) high now
+pub keeps_read : (kept now : List ℕ) (n high : ℕ) → length kept ≡ 144 → n < high → now ≡ numbers_with kept n high → KeepsTo kept n (n + 1) high now
 keeps_read kept now n high long inside is = subst (λ (numbers : List ℕ). KeepsTo kept n (n + 1) high numbers) (sym is) (by_cases (is_later kept n high) refl) where
-  by_cases : (b : Bool) → is_later kept n high ≡ b → KeepsTo kept n (n + 1) high (if b then kept else slice_set kept (n % 72) n)
+  by_cases : (b : Bool) → is_later kept n high ≡ b → KeepsTo kept n (n + 1) high (if b then kept else slice_set kept (n % 144) n)
   by_cases true is = keeps_left kept n high is
   by_cases false is = keeps_set kept n high long is inside
 
 -- only page 0 is kept at first
-pub keeps_first : KeepsFirst (replicate 72 0)
-keeps_first n = ap (λ (number : ℕ). n == number) (get_or-replicate 72 (n % 72) 0 0 (omega arith))
+pub keeps_first : KeepsFirst (replicate 144 0)
+keeps_first n = ap (λ (number : ℕ). n == number) (get_or-replicate 144 (n % 144) 0 0 (omega arith))
 
 -- ---- what is kept goes on being of the open file
 
@@ -131,25 +131,25 @@ sound_later old new size header numbers pages same sound =
     }
 
 -- page n is kept too
-kept_set : (source : SourceView) (numbers : List ℕ) (pages : List (List ℕ)) (n : ℕ) (page : List ℕ) → length numbers ≡ 72 → length pages ≡ 72 → AreKept source numbers pages → IsPage source n page → AreKept source (slice_set numbers (n % 72) n) (slice_set pages (n % 72) page)
+kept_set : (source : SourceView) (numbers : List ℕ) (pages : List (List ℕ)) (n : ℕ) (page : List ℕ) → length numbers ≡ 144 → length pages ≡ 144 → AreKept source numbers pages → IsPage source n page → AreKept source (slice_set numbers (n % 144) n) (slice_set pages (n % 144) page)
 kept_set source numbers pages n page long longs are is k held =
     ⊎_elim
-    (λ (same : k % 72 ≡ n % 72).
+    (λ (same : k % 144 ≡ n % 144).
     let here : k ≡ n = eqb-true k n (sym (kept_same numbers n k long same) ∙ held) in
-    let fits : n % 72 < length pages = omega arith in
-    let page_is : page_in (slice_set pages (n % 72) page) k ≡ page = ap (λ (place : ℕ). get_or (set pages (n % 72) page) place []) same ∙ get_or-set_same pages (n % 72) page [] fits in
+    let fits : n % 144 < length pages = omega arith in
+    let page_is : page_in (slice_set pages (n % 144) page) k ≡ page = ap (λ (place : ℕ). get_or (set pages (n % 144) page) place []) same ∙ get_or-set_same pages (n % 144) page [] fits in
     subst (λ (bytes : List ℕ). IsPage source k bytes) (sym page_is) (subst (λ (m : ℕ). IsPage source m page) (sym here) is))
-    (λ (other : k % 72 ≢ n % 72).
-    let page_is : page_in (slice_set pages (n % 72) page) k ≡ page_in pages k = get_or-set_other pages (n % 72) (k % 72) page [] other in
+    (λ (other : k % 144 ≢ n % 144).
+    let page_is : page_in (slice_set pages (n % 144) page) k ≡ page_in pages k = get_or-set_other pages (n % 144) (k % 144) page [] other in
     subst (λ (bytes : List ℕ). IsPage source k bytes) (sym page_is) (are k (sym (kept_other numbers n k other) ∙ held)))
     (cases_place k n)
 
-pub sound_more : (old new : SourceView) (size n high : ℕ) (header : Header) (numbers : List ℕ) (pages : List (List ℕ)) (page : List ℕ) → length numbers ≡ 72 → length pages ≡ 72 → SameFile old new → IsSound old size header numbers pages → IsPage new n page → IsSound new size header (numbers_with numbers n high) (pages_with numbers pages n high page)
+pub sound_more : (old new : SourceView) (size n high : ℕ) (header : Header) (numbers : List ℕ) (pages : List (List ℕ)) (page : List ℕ) → length numbers ≡ 144 → length pages ≡ 144 → SameFile old new → IsSound old size header numbers pages → IsPage new n page → IsSound new size header (numbers_with numbers n high) (pages_with numbers pages n high page)
 sound_more old new size n high header numbers pages page long longs same sound is = by_cases (is_later numbers n high) where
   sound_new : IsSound new size header numbers pages
   sound_new = sound_later old new size header numbers pages same sound
 
-  by_cases : (b : Bool) → IsSound new size header (if b then numbers else slice_set numbers (n % 72) n) (if b then pages else slice_set pages (n % 72) page)
+  by_cases : (b : Bool) → IsSound new size header (if b then numbers else slice_set numbers (n % 144) n) (if b then pages else slice_set pages (n % 144) page)
   by_cases true = sound_new
   by_cases false =
       record {
@@ -162,15 +162,15 @@ sound_more old new size n high header numbers pages page long longs same sound i
       }
 
 -- page 0 alone is kept
-pub keeps_first_alone : (numbers : List ℕ) → numbers ≡ replicate 72 0 → KeepsFirst numbers
+pub keeps_first_alone : (numbers : List ℕ) → numbers ≡ replicate 144 0 → KeepsFirst numbers
 keeps_first_alone numbers is = subst KeepsFirst (sym is) keeps_first
 
-pub kept_first : (source : SourceView) (numbers : List ℕ) (pages : List (List ℕ)) (page : List ℕ) → numbers ≡ replicate 72 0 → page_in pages 0 ≡ page → IsPage source 0 page → AreKept source numbers pages
+pub kept_first : (source : SourceView) (numbers : List ℕ) (pages : List (List ℕ)) (page : List ℕ) → numbers ≡ replicate 144 0 → page_in pages 0 ≡ page → IsPage source 0 page → AreKept source numbers pages
 kept_first source numbers pages page are at_0 is k held =
     let here : k ≡ 0 = eqb-true k 0 (sym (keeps_first_alone numbers are k) ∙ held) in
     subst (λ (m : ℕ). IsPage source m (page_in pages m)) (sym here) (subst (λ (bytes : List ℕ). IsPage source 0 bytes) (sym at_0) is)
 
-pub sound_first : (old source : SourceView) (size told : ℕ) (header : Header) (numbers : List ℕ) (pages : List (List ℕ)) (page : List ℕ) → old.size ≡ Some size → IsOpened old size told header source → numbers ≡ replicate 72 0 → page_in pages 0 ≡ page → IsPage source 0 page → IsSound source size header numbers pages
+pub sound_first : (old source : SourceView) (size told : ℕ) (header : Header) (numbers : List ℕ) (pages : List (List ℕ)) (page : List ℕ) → old.size ≡ Some size → IsOpened old size told header source → numbers ≡ replicate 144 0 → page_in pages 0 ≡ page → IsPage source 0 page → IsSound source size header numbers pages
 sound_first old source size told header numbers pages page open_size opened are at_0 is =
     record {
       open_size = opened.source.same.size ∙ open_size;
@@ -182,7 +182,7 @@ sound_first old source size told header numbers pages page open_size opened are 
     }
 
 -- page n was read, and is kept unless a later page of the range has its place
-pub sound_read : (old new : SourceView) (size n high : ℕ) (header : Header) (numbers numbers' : List ℕ) (pages pages' : List (List ℕ)) (page : List ℕ) → length numbers ≡ 72 → length pages ≡ 72 → SameFile old new → IsSound old size header numbers pages → IsPage new n page → numbers' ≡ numbers_with numbers n high → pages' ≡ pages_with numbers pages n high page → IsSound new size header numbers' pages'
+pub sound_read : (old new : SourceView) (size n high : ℕ) (header : Header) (numbers numbers' : List ℕ) (pages pages' : List (List ℕ)) (page : List ℕ) → length numbers ≡ 144 → length pages ≡ 144 → SameFile old new → IsSound old size header numbers pages → IsPage new n page → numbers' ≡ numbers_with numbers n high → pages' ≡ pages_with numbers pages n high page → IsSound new size header numbers' pages'
 sound_read old new size n high header numbers numbers' pages pages' page long longs same sound is are stand =
     subst (λ (ns : List ℕ). IsSound new size header ns pages') (sym are)
     (subst (λ (ps : List (List ℕ)). IsSound new size header (numbers_with numbers n high) ps) (sym stand)

@@ -1,9 +1,9 @@
--- The pages of a file that are kept, by their numbers: 72 places, of which page n may stand in place n % 72 alone.
+-- The pages of a file that are kept, by their numbers: 144 places, of which page n may stand in place n % 144 alone.
 use Rattle.std.specs.Prelude.{◌≡◌, ℕ, ◌+◌, ◌%◌, ◌<◌, ◌≤◌, ◌⊎◌, Bool, true, false, ◌==◌, ◌&&◌, nat_lt, nat_le, if◌then◌else◌, List, [], ◌∷◌, slice_index, slice_index_or, slice_set}
 
 -- how many places there are
 abbrev pub places : ℕ
-places = 72
+places = 144
 
 -- Page n is kept: its number stands in its place. A place that isn't used has number 0, whose place is the first, and
 -- page 0 is kept from the opening on.
@@ -21,7 +21,7 @@ AreUnkept kept (page ∷ pages) = (is_kept kept page ≡ false) × AreUnkept kep
 
 -- What a read of the pages from `low` on and below `high` has kept when it comes to page n.
 pub record KeepsTo (old : List ℕ) (low n high : ℕ) (new : List ℕ) : Type 0 where
-  -- of the 72 pages before the range's end those that it read, and those that were kept
+  -- of the 144 pages before the range's end those that it read, and those that were kept
   pub last : (k : ℕ) → k < n → high ≤ k + places → (low ≤ k) ⊎ (is_kept old k ≡ true) → is_kept new k ≡ true
   -- of the pages that it will come to those that were kept, and no other
   pub later : (k : ℕ) → n ≤ k → k < high → is_kept new k ≡ is_kept old k

@@ -72,7 +72,7 @@ IsNotOpened old size (Refused found) new = MatchOption (length_fault size) (IsRe
 IsNotOpened old size Source new = (length_fault size ≡ None) × Rose old.faults new.faults × AsksFor old (0 ∷ []) new
 
 -- The range of logical bytes from place `at` on was read: all its pages are right. Pages of the range alone were asked
--- for, and none that was kept. The last 72 of them are kept.
+-- for, and none that was kept. The last 144 of them are kept.
 pub record ReadsRange (old : SourceView) (kept : List ℕ) (at count : ℕ) (out : List ℕ) (new : SourceView) (now : List ℕ) : Type 0 where
   pub source : AsksUnkept kept (at / payload_length) (span_end at count) old new
   pub keeps : KeepsTo kept (at / payload_length) (span_end at count) (span_end at count) now

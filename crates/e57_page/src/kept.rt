@@ -4,9 +4,9 @@ ghost use Rattle.std.specs.Prelude.{◌≡◌, ◌+◌, ◌%◌, ◌<◌, ◌^�
 ghost use Rattle.e57_page.specs.Kept.{places, is_kept, numbers_with, pages_with, page_in};
 
 /// How many pages are kept.
-pub const PLACES: usize = 72;
+pub const PLACES: usize = 144;
 
-/// Up to 72 pages with their numbers: page n may stand in place n % 72 alone. A place that isn't used has number 0,
+/// Up to 144 pages with their numbers: page n may stand in place n % 144 alone. A place that isn't used has number 0,
 /// whose place is the first one, which page 0 has until another page of that place is read.
 #[derive(Drop)]
 pub struct Kept {

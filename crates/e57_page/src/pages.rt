@@ -28,7 +28,7 @@ pub struct Cut {
 
 /// An open file whose length, header and first page are right (ASTM E2807, physical layout: pages of 1024 bytes).
 ///
-/// It keeps the pages that it read last, up to 72, in itself: page n in place n % 72. A page that is kept isn't asked
+/// It keeps the pages that it read last, up to 144, in itself: page n in place n % 144. A page that is kept isn't asked
 /// for again. No byte of a page with a wrong word is ever given.
 #[derive(Drop)]
 pub struct Pages<S: Source> {
@@ -105,7 +105,7 @@ impl<S: Source> Pages<S> {
 
     /// Reads the logical bytes from place `at` on into `out`. The range lies in the logical bytes.
     ///
-    /// Asks for those pages of the range that aren't kept, in ascending order, each once. Afterwards the last 72 pages of
+    /// Asks for those pages of the range that aren't kept, in ascending order, each once. Afterwards the last 144 pages of
     /// the range are kept. A `Cut` says that the first page of the range that failed (`Source`) or whose word is wrong
     /// (`Page`) stopped the read: the bytes of the range before that page were read, and the rest of `out` is as it was.
     /// The value can be used afterwards as before.

@@ -33,14 +33,14 @@ fn page_with(alloc: Global, front: &[u8], filling: u8, damage: u32) -> Result<Ve
     Ok(page)
 }
 
-// The header of a file of 80 pages.
-const HEADER_OF_80: &[u8; 48] =
-    b"ASTM-E57\x01\0\0\0\0\0\0\0\0\x40\x01\0\0\0\0\0\x88\0\0\0\0\0\0\0\xa5\x03\0\0\0\0\0\0\0\x04\0\0\0\0\0\0";
+// The header of a file of 152 pages.
+const HEADER_OF_152: &[u8; 48] =
+    b"ASTM-E57\x01\0\0\0\0\0\0\0\0\x60\x02\0\0\0\0\0\x88\0\0\0\0\0\0\0\xa5\x03\0\0\0\0\0\0\0\x04\0\0\0\0\0\0";
 
-// The open file of 80 pages.
+// The open file of 152 pages.
 fn many_pages(alloc: Global) -> Result<Pages<MemSource>, Fail> {
-    let mut bytes = page_with(alloc, HEADER_OF_80, 1, 0)?;
-    for n in 1..80 {
+    let mut bytes = page_with(alloc, HEADER_OF_152, 1, 0)?;
+    for n in 1..152 {
         bytes.extend_from_slice(&page_with(alloc, &[], n, 0)?)?;
     }
     let mut source = MemSource::new(alloc, 200)?;
@@ -88,18 +88,18 @@ fn read_all(pages: &mut Pages<MemSource>, out: &mut [u8]) -> Result<(), Fail> {
     Ok(())
 }
 
-// Of a range of 80 pages the last 72 are kept, and the first 8 are asked for again each time.
+// Of a range of 152 pages the last 144 are kept, and the first 8 are asked for again each time.
 #[test]
 fn keeps_pages(rt: HostRuntime) -> Result<(), Fail> {
     let mut pages = many_pages(rt.alloc())?;
-    let mut out = vec![in rt.alloc(); 0; 81_600]?;
+    let mut out = vec![in rt.alloc(); 0; 155_040]?;
     for _ in 0..3 {
         read_all(&mut pages, &mut out)?;
-        assert_eq!(rt; out.get(81_599), Some(&79));
+        assert_eq!(rt; out.get(155_039), Some(&151));
     }
     let source = pages.into_source();
-    assert_eq!(rt; source.asked().len(), 1 + 79 + 8 + 8);
-    assert_eq!(rt; source.asked().get(80), Some(&0));
+    assert_eq!(rt; source.asked().len(), 1 + 151 + 8 + 8);
+    assert_eq!(rt; source.asked().get(152), Some(&0));
     Ok(())
 }
 

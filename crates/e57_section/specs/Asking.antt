@@ -11,7 +11,7 @@ use Rattle.e57_sections.specs.Met.{InSpan}
 abbrev pub AsksSpan : List ℕ → ℕ → ℕ → SourceView → SourceView → Type 0
 AsksSpan kept q n old new = AsksUnkept kept (q / 1020) (span_end q n) old new
 
--- The pages of these bytes were read, and the last 72 of them are kept.
+-- The pages of these bytes were read, and the last 144 of them are kept.
 abbrev pub KeepsSpan : List ℕ → ℕ → ℕ → List ℕ → Type 0
 KeepsSpan old q n new = KeepsTo old (q / 1020) (span_end q n) (span_end q n) new
 

@@ -66,7 +66,7 @@ lies_at size head blob e = let at_place = head_is size blob.length head (place b
 pub told_size : (old : SourceView) (size : ℕ) → HoldsSize old → old.size ≡ Some size → IfSome old.held (λ file. logical_size file ≡ size / 1024 * 1020)
 told_size old size holds known = told_map (λ file. length file ≡ size) (λ file. logical_size file ≡ size / 1024 * 1020) old.held (λ file is. rw is refl) (length_told old.held old.size size holds known)
 
-last_of : (h k : ℕ) → k + 1 ≡ span_end h 16 → (k < span_end h 16) × (span_end h 16 ≤ k + 72) × (h / 1020 ≤ k)
+last_of : (h k : ℕ) → k + 1 ≡ span_end h 16 → (k < span_end h 16) × (span_end h 16 ≤ k + 144) × (h / 1020 ≤ k)
 last_of h k is = (grind (arith, nat_tests), grind (arith, nat_tests), grind (arith, nat_tests))
 
 pub keeps_last : (h : ℕ) (kept now : List ℕ) → KeepsTo kept (h / 1020) (span_end h 16) (span_end h 16) now → KeepsLast h 16 now

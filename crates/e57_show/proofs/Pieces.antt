@@ -41,7 +41,7 @@ asks_part blob at count kept old new some keeps asks =
     let asked = asks_unkept_from kept ((h + 16 + at) / 1020) (span_end h (16 + at)) (span_end (h + 16 + at) count) old new (λ k from below. keeps k (before_end h at k from below)) asks in
     asks_within_wider (span_end h (16 + at)) (span_end h (16 + at)) (span_end (h + 16 + at) count) (span_end h (16 + (at + count))) old new (omega arith) (let e = same_end h at count some in omega (arith, e)) (asks_unkept_within kept (span_end h (16 + at)) (span_end (h + 16 + at) count) old new asked)
 
-last_of : (h at count k : ℕ) → 0 < count → k + 1 ≡ span_end h (16 + (at + count)) → (k < span_end (h + 16 + at) count) × (span_end (h + 16 + at) count ≤ k + 72) × ((h + 16 + at) / 1020 ≤ k)
+last_of : (h at count k : ℕ) → 0 < count → k + 1 ≡ span_end h (16 + (at + count)) → (k < span_end (h + 16 + at) count) × (span_end (h + 16 + at) count ≤ k + 144) × ((h + 16 + at) / 1020 ≤ k)
 last_of h at count k some is = (grind (arith, nat_tests), grind (arith, nat_tests), grind (arith, nat_tests))
 
 pub keeps_part : (blob : Blob) (at count : ℕ) (kept now : List ℕ) → 0 < count → KeepsTo kept ((blob_start blob + at) / 1020) (span_end (blob_start blob + at) count) (span_end (blob_start blob + at) count) now → KeepsLast (blob_head blob) (16 + (at + count)) now

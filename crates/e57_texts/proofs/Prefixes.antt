@@ -1,6 +1,6 @@
 -- The prefix that some bytes begin with.
-use Rattle.std.proofs.Common.{◌≡◌, ℕ, ◌%◌, ◌<◌, ◌≤◌, ◌==◌, Bool, true, false, if◌then◌else◌, List, [], ◌++◌, length, take, drop, get_or, sym, ap, subst, ◌∙◌, arith}
-use Rattle.std.proofs.lemmas.Bool.{lt-ltb, le-ltb}
+use Rattle.std.proofs.Common.{◌≡◌, ℕ, ◌%◌, ◌<◌, ◌≤◌, ◌==◌, Bool, true, false, if◌then◌else◌, List, [], ◌∷◌, ◌++◌, length, take, drop, get_or, ◌/◌, eq-eqb, sym, ap, subst, ◌∙◌, arith}
+use Rattle.std.proofs.lemmas.Bool.{cond-true, lt-ltb, le-ltb}
 use Rattle.std.proofs.lemmas.List.{take-append-drop}
 use Rattle.e57_layout.specs.Strings.{string_limit, prefix_found, prefix_too_long, prefix_cut_off, limited, first_prefix}
 use Rattle.e57_strings.specs.Progress.{Progress, in_prefix, prefix_size}
@@ -53,3 +53,14 @@ pub over : (p : Progress) (bytes old : List ℕ) (taken n : ℕ) (after : Progre
 over p bytes old taken n after new e far f =
     let is = whole p bytes old taken n after new e f in
     ap first_prefix (sym (take-append-drop taken bytes)) ∙ is.1 (drop taken bytes) ∙ limited-far n (drop taken bytes) far
+
+first_prefix-even : (b : ℕ) (bs : List ℕ) → b % 2 ≡ 0 → first_prefix (b ∷ bs) ≡ limited (b / 2) bs
+unfolding first_prefix
+first_prefix-even b bs even = cond-true (b % 2 == 0) _ _ (eq-eqb (b % 2) 0 even)
+
+-- a first byte that is even is the whole prefix
+pub one_byte : (bytes : List ℕ) → 0 < length bytes → get_or bytes 0 0 % 2 ≡ 0 → get_or bytes 0 0 < 256 → StatesLength bytes (get_or bytes 0 0 / 2) 1
+one_byte [] more even fits = absurd (omega arith)
+one_byte (b ∷ bs) more even fits =
+    let near : b / 2 ≤ string_limit = omega arith in
+    record { there = omega arith; limit = near; stated = λ rest. first_prefix-even b rest even ∙ limited-near (b / 2) rest near }

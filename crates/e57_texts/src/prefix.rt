@@ -63,10 +63,16 @@ pub fn next_prefix<S: Source>(
     }
 }
 
-/// What these bytes begin with.
+/// What these bytes begin with. A prefix of one byte, the commonest, is told without a cursor.
 fn prefix_of(bytes: &[u8]) -> Prefix
     ensures { BeginsWith bytes.now result }
 {
+    if !bytes.is_empty() && bytes[0] % 2 == 0 {
+        return Prefix::Stated {
+            length: bytes[0] as u64 / 2,
+            size: 1,
+        };
+    }
     let mut cursor = StringCursor::new();
     let mut none: [u8; 0] = [];
     match cursor.feed(bytes, &mut none) {
