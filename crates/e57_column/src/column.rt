@@ -107,6 +107,13 @@ impl Column {
         self.state.chunk.at
     }
 
+    /// The logical place up to which packets were taken of the chunk in which the column stood last; 0 if it stood in none.
+    pub fn taken(&self) -> u64
+        ensures { result ≡ self.now.chunk.taken }
+    {
+        self.state.chunk.taken
+    }
+
     /// Places the column at record `i`, or behind the last record, if `i` is the number of records. It takes no memory.
     ///
     /// Refuses a fault on the way to the field's item of that record: of the path through the index, or of the packets by
