@@ -43,6 +43,7 @@ impl Window {
     }
 
     /// The bytes.
+    #[inline]
     pub fn bytes(&self) -> &[u8]
         ensures bytes { result.now ≡ self.now }
         ensures few { length self.now ≤ room }
@@ -51,6 +52,7 @@ impl Window {
     }
 
     /// How many bytes there are.
+    #[inline]
     pub fn len(&self) -> usize
         ensures count { result ≡ length self.now }
         ensures few { length self.now ≤ room }
@@ -59,6 +61,7 @@ impl Window {
     }
 
     /// Lets the first `n` bytes go.
+    #[inline]
     pub fn skip(&mut self, n: usize)
         requires { n ≤ length self.old }
         ensures { self.new ≡ drop n self.old }
@@ -69,6 +72,7 @@ impl Window {
     }
 
     /// Lets all bytes go.
+    #[inline]
     pub fn clear(&mut self)
         ensures { self.new ≡ [] }
     {

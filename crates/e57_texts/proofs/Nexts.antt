@@ -1,6 +1,6 @@
 -- The next string: its prefix, and then its bytes.
-use Rattle.std.proofs.Common.{◌≡◌, ℕ, ◌+◌, ◌≤◌, List, [], ◌++◌, length, take, drop, refl, sym, subst, ◌∙◌, arith}
-use Rattle.std.proofs.lemmas.List.{length-take, take_at}
+use Rattle.std.proofs.Common.{◌≡◌, ℕ, ◌+◌, ◌≤◌, List, [], ◌++◌, length, take, drop, refl, sym, subst, ap, ◌∙◌, arith}
+use Rattle.std.proofs.lemmas.List.{length-take, length-drop, take-take, take_at, drop-drop}
 use Rattle.e57_base.specs.Source.{SourceView}
 use Rattle.e57_base.specs.declared.fault.ReadFault.{ReadFault}
 use Rattle.e57_stream.specs.declared.bytestream.Bytestream.{Bytestream}
@@ -8,7 +8,8 @@ use Rattle.e57_stream.specs.declared.chunk.Chunk.{Chunk}
 use Rattle.e57_texts.specs.Pieces.{IsCut, IsFewer, TakesPiece, LacksPiece, SkipsPiece, HasPrefix}
 use Rattle.e57_texts.specs.Reading.{LacksText}
 use Rattle.e57_texts.specs.Steps.{one_on, TakesText, SkipsText}
-use Rattle.e57_texts.proofs.Pieces.{takes_moved, takes_on, lacks_on}
+use Rattle.e57_texts.specs.Short.{short_length, BeginsShort}
+use Rattle.e57_texts.proofs.Pieces.{takes_none, takes_moved, takes_on, lacks_on}
 use Rattle.e57_texts.proofs.Texts.{cut_behind, found_behind, lacks_text}
 
 -- the prefix is let go
@@ -53,3 +54,18 @@ lacks_bytes s0 s1 s2 b c0 c1 c2 n size k window found low is count f g =
     lacks_text s0 s2 b c0 c2 found low
     (lacks_on s0 s1 s2 b c0 (behind_prefix c1 window) c2 IsCut IsCut (IsFewer n) (take size c1.window) found (λ more e. e) (λ more few. cut_behind (take size c1.window) more n (f.states.stated more) few) (takes_prefix s0 s1 b c0 c1 n size window is f)
     (subst (λ (j : ℕ). LacksPiece s1 b (record c1 { window = window }) (IsFewer j) found c2 s2) count g))
+
+-- a short string that stands whole in the window
+pub short_text : (source : SourceView) (b : Bytestream) (chunk : Chunk) (n : ℕ) (out window : List ℕ) → chunk.taken ≤ b.section.end → BeginsShort chunk.window n → take short_length out ≡ take short_length (drop 1 chunk.window) → window ≡ drop (1 + n) chunk.window
+    → TakesText source b chunk (take n out) (record chunk { window = window; at = chunk.at + 1 }) source
+short_text source b chunk n out window within short same is =
+    let few = short.few in
+    let there = short.there in
+    let behind = length-drop 1 chunk.window in
+    let text : take n out ≡ take n (drop 1 chunk.window) = sym (take-take n short_length out few) ∙ ap (take n) same ∙ take-take n short_length (drop 1 chunk.window) few in
+    let count : length (take n (drop 1 chunk.window)) ≡ n = length-take n (drop 1 chunk.window) ∙ omega (arith, few, there, behind) in
+    let left : window ≡ drop n (drop 1 chunk.window) = is ∙ sym (drop-drop n 1 chunk.window) in
+    subst (λ (xs : List ℕ). TakesText source b chunk xs (record chunk { window = window; at = chunk.at + 1 }) source) (sym text)
+    (takes_text source source source b chunk chunk (record chunk { window = window }) n 1 (drop 1 chunk.window) (take n (drop 1 chunk.window)) refl count
+    (record { takes = takes_none source b chunk IsCut within; states = short.states })
+    (takes_moved source source b (behind_prefix chunk (drop 1 chunk.window)) (behind_prefix chunk (drop 1 chunk.window)) (IsFewer n) [] n window left (takes_none source b (behind_prefix chunk (drop 1 chunk.window)) (IsFewer n) within)))

@@ -4,6 +4,7 @@
 
 mod piece;
 mod prefix;
+mod short;
 mod skip;
 mod strings;
 

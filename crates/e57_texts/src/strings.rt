@@ -11,6 +11,7 @@ ghost use Rattle.e57_texts.specs.Steps.{ReadsNext};
 
 use crate::piece::read_piece;
 use crate::prefix::next_prefix;
+use crate::short::{move_short, short_string};
 use e57_base::{ReadFault, Source};
 use e57_page::Pages;
 use e57_section::Packet;
@@ -125,6 +126,12 @@ fn read_next<S: Source>(
         (λ found. LacksText (S.view pages.old.source) stream.now chunk.old found chunk.new (S.view pages.new.source)) }
     ensures fits { IfErr result (λ found. IsFitting (S.view pages.old.source) stream.now chunk.old chunk.old.at (length out.old) found) }
 {
+    if let Some(count) = short_string(chunk.window.bytes(), out.len()) {
+        move_short(out, chunk.window.bytes());
+        chunk.window.skip(1 + count);
+        chunk.at += 1;
+        return Ok(Next::Read(count));
+    }
     let (length, size) = match next_prefix(stream, pages, packet, chunk) {
         Ok(stated) => stated,
         Err(fault) => return Err(fault),
