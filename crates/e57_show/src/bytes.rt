@@ -16,10 +16,10 @@ use e57_page::{Cut, Pages};
 use e57_tree::Blob;
 use std::alloc::Global;
 
-/// How many bytes are put in one call at most: those of 64 pages.
-const PIECE: usize = 64 * 1020;
+/// How many bytes are put in one call at most.
+const PIECE: usize = 65_536;
 
-/// Puts the bytes of blob k on `out`, counted from 0 in document order, in pieces of at most 65,280 bytes. It asks the
+/// Puts the bytes of blob k on `out`, counted from 0 in document order, in pieces of at most 65,536 bytes. It asks the
 /// source for those pages of the XML section that aren't kept, and then for pages of the blob's header and bytes, each in
 /// ascending order and at most once, and for no other.
 ///
