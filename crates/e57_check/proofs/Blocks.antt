@@ -1,14 +1,11 @@
 -- The fields of a section, judged block after block.
-use Rattle.std.specs.Prelude.{◌≡◌, ℕ, ◌+◌, ◌-◌, ◌≤◌, ◌⊎◌, List, [], ◌∷◌, ◌++◌, length, take, Option, Some, None, IfSome, Result}
+use Rattle.std.specs.Prelude.{◌≡◌, ℕ, ◌+◌, ◌-◌, ◌≤◌, ◌⊎◌, List, [], ◌∷◌, ◌++◌, length, take, Option, None, IfSome, Result}
 use Rattle.std.specs.Option.{option_or}
 use Rattle.std.proofs.Common.{refl, sym, ap, ◌∙◌, arith, ⊎_elim}
 use Rattle.std.proofs.lemmas.List.{take_at}
-use Rattle.e57_base.specs.Count.{rose_before}
 use Rattle.e57_base.specs.Source.{SourceView}
 use Rattle.e57_base.specs.Told.{told_map, told_both, told_here}
 use Rattle.e57_base.specs.declared.fault.Fault.{Fault}
-use Rattle.e57_base.specs.declared.fault.OpenFault.{OpenFault}
-use Rattle.e57_base.specs.declared.fault.OpenFault.TheVariants.{Refused, Source, Memory}
 use Rattle.e57_layout.specs.Values.{Value}
 use Rattle.e57_layout.specs.declared.field.Fixed.{Fixed}
 use Rattle.e57_layout.specs.declared.section.Section.{Section}
@@ -18,8 +15,8 @@ use Rattle.e57_sections.specs.Laws.Items.{IsBodySound}
 use Rattle.e57_sections.specs.Laws.Refusals.{first_refusal}
 use Rattle.e57_column.specs.Column.{column_item}
 use Rattle.e57_check.specs.Asking.{AsksWhere}
-use Rattle.e57_check.specs.AskingLaws.{asks_where_none, asks_where_on, asks_where_map}
-use Rattle.e57_check.specs.Judging.{AllAt, AllStand, columns_fault, RowIs, ReadsRow, ReadsNoRow, IsGiveUp, Judges, OpensColumns, JudgesBlock, GivesUp, JudgesFields, IsFieldsCause, RefusesFields}
+use Rattle.e57_check.specs.AskingLaws.{asks_where_on, asks_where_map}
+use Rattle.e57_check.specs.Judging.{AllAt, AllStand, columns_fault, RowIs, ReadsRow, Judges, OpensColumns, JudgesBlock}
 use Rattle.e57_column.specs.declared.state.State.{State}
 use Rattle.e57_check.proofs.Rows.{row-step, columns-none}
 
@@ -40,17 +37,17 @@ block-kept count old new s cs read found row_found found' a n j size cs' rest ke
     let whole : take size (cs' ++ rest) ≡ cs' = take_at cs' rest size (row.as_many ∙ long) in
     rw (is, whole, found_is, ← same) (block-read count old new s read found row_found a n j cs' row)
 
-pub record FieldsSoFar (count : ℕ) (old : SourceView) (s : Section) (fixed : Option Fixed) (leaves : List Leaf) (a : ℕ) (cs : List State) (found : Option Fault) (new : SourceView) : Type 0 where
-  pub source : AsksWhere (λ file. Unit {0}) count old new
+-- What is known of the fields where the columns are at record a.
+pub record FieldsSoFar (old : SourceView) (s : Section) (fixed : Option Fixed) (leaves : List Leaf) (a : ℕ) (cs : List State) (found : Option Fault) : Type 0 where
   pub low : a ≤ s.count
   pub all : AllAt s a cs
   pub stand : IfSome old.held (λ file. AllStand file cs)
   pub judged : Judges old s fixed leaves a cs found
 
-pub fields-begin : (count : ℕ) (old new : SourceView) (s : Section) (fixed : Option Fixed) (leaves : List Leaf) (cs : List State) (found : Option Fault) → OpensColumns count old s fixed leaves cs found new → FieldsSoFar count old s fixed leaves 0 cs found new
-fields-begin count old new s fixed leaves cs found opens = record { source = opens.source; low = omega arith; all = opens.all; stand = opens.stand; judged = opens.judged }
+pub fields-begin : (count : ℕ) (old new : SourceView) (s : Section) (fixed : Option Fixed) (leaves : List Leaf) (cs : List State) (found : Option Fault) → OpensColumns count old s fixed leaves cs found new → FieldsSoFar old s fixed leaves 0 cs found
+fields-begin count old new s fixed leaves cs found opens = record { low = omega arith; all = opens.all; stand = opens.stand; judged = opens.judged }
 
-block-asks : (count : ℕ) (old mid new : SourceView) (cs : List State) → AsksWhere (λ file. Unit {0}) count old mid → IfSome old.held (λ file. AllStand file cs) → AsksWhere (λ file. AllStand file cs) count mid new → AsksWhere (λ file. Unit {0}) count old new
+pub block-asks : (count : ℕ) (old mid new : SourceView) (cs : List State) → AsksWhere (λ file. Unit {0}) count old mid → IfSome old.held (λ file. AllStand file cs) → AsksWhere (λ file. AllStand file cs) count mid new → AsksWhere (λ file. Unit {0}) count old new
 block-asks count old mid new cs first stand next =
     asks_where_on (λ file. Unit {0}) count old mid new first
     (asks_where_map (λ file. AllStand file cs) (λ file. Unit {0}) count mid new
@@ -58,23 +55,22 @@ block-asks count old mid new cs first stand next =
 
 -- one block more
 pub fields-step : (count : ℕ) (old mid new : SourceView) (s : Section) (fixed : Option Fixed) (leaves : List Leaf) (a n : ℕ) (cs cs' : List State) (found found' : Option Fault) → n ≤ s.count - a
-    → FieldsSoFar count old s fixed leaves a cs found mid → JudgesBlock count mid s cs found a n new cs' found' → FieldsSoFar count old s fixed leaves (a + n) cs' found' new
-fields-step count old mid new s fixed leaves a n cs cs' found found' few before block =
+    → mid.held ≡ old.held → FieldsSoFar old s fixed leaves a cs found → JudgesBlock count mid s cs found a n new cs' found' → FieldsSoFar old s fixed leaves (a + n) cs' found'
+fields-step count old mid new s fixed leaves a n cs cs' found found' few same before block =
     let low = before.low in
     let split : s.count - a ≡ n + (s.count - (a + n)) = omega (arith, few, low) in
     record {
-      source = block-asks count old mid new cs before.source before.stand block.source;
       low = omega (arith, few, low);
       all = block.all;
       stand = told_both (λ file. AllStand file cs) (λ file. AllStand file cs → AllStand file cs') (λ file. AllStand file cs') old.held (λ file all on. on all) before.stand
-          (told_here (λ file. AllStand file cs → AllStand file cs') mid.held old.held (sym before.source.asks.same.held) block.stand);
+          (told_here (λ file. AllStand file cs → AllStand file cs') mid.held old.held (sym same) block.stand);
       judged = told_both (λ file. AllStand file cs × (IsBodySound file s fixed → fields_fault 0 leaves (chunks file s fixed) ≡ option_or (columns_fault file cs a (s.count - a)) found))
           (λ file. AllStand file cs → (m : ℕ) → option_or (columns_fault file cs a (n + m)) found ≡ option_or (columns_fault file cs' (a + n) m) found')
           (λ file. IsBodySound file s fixed → fields_fault 0 leaves (chunks file s fixed) ≡ option_or (columns_fault file cs' (a + n) (s.count - (a + n))) found') old.held
           (λ file both told sound. both.1 sound ∙ ap (λ (m : ℕ). option_or (columns_fault file cs a m) found) split ∙ told both.0 (s.count - (a + n)))
           (told_both (λ file. AllStand file cs) (λ file. IsBodySound file s fixed → fields_fault 0 leaves (chunks file s fixed) ≡ option_or (columns_fault file cs a (s.count - a)) found)
           (λ file. AllStand file cs × (IsBodySound file s fixed → fields_fault 0 leaves (chunks file s fixed) ≡ option_or (columns_fault file cs a (s.count - a)) found)) old.held (λ file x y. (x, y)) before.stand before.judged)
-          (told_here (λ file. AllStand file cs → (m : ℕ) → option_or (columns_fault file cs a (n + m)) found ≡ option_or (columns_fault file cs' (a + n) m) found') mid.held old.held (sym before.source.asks.same.held) block.told);
+          (told_here (λ file. AllStand file cs → (m : ℕ) → option_or (columns_fault file cs a (n + m)) found ≡ option_or (columns_fault file cs' (a + n) m) found') mid.held old.held (sym same) block.told);
     }
 
 -- nothing is left to read
@@ -99,36 +95,8 @@ left-none file s a cs how = ⊎_elim
     by_list [] empty = columns-none file a (s.count - a)
     by_list (c ∷ cs) empty = absurd (omega (arith, empty))
 
-ended : (old : SourceView) (s : Section) (fixed : Option Fixed) (leaves : List Leaf) (a : ℕ) (cs : List State) (found : Option Fault) → (s.count ≤ a) ⊎ (length cs ≡ 0) → Judges old s fixed leaves a cs found → IfSome old.held (λ file. IsBodySound file s fixed → fields_fault 0 leaves (chunks file s fixed) ≡ found)
-ended old s fixed leaves a cs found how judged =
+-- the fields' first fault, where the records are at their end or no column is left
+pub fields-ended : (old : SourceView) (s : Section) (fixed : Option Fixed) (leaves : List Leaf) (a : ℕ) (cs : List State) (found : Option Fault) → (s.count ≤ a) ⊎ (length cs ≡ 0) → FieldsSoFar old s fixed leaves a cs found → IfSome old.held (λ file. IsBodySound file s fixed → fields_fault 0 leaves (chunks file s fixed) ≡ found)
+fields-ended old s fixed leaves a cs found how so =
     told_map (λ file. IsBodySound file s fixed → fields_fault 0 leaves (chunks file s fixed) ≡ option_or (columns_fault file cs a (s.count - a)) found) (λ file. IsBodySound file s fixed → fields_fault 0 leaves (chunks file s fixed) ≡ found) old.held
-    (λ file is sound. is sound ∙ ap (λ (o : Option Fault). option_or o found) (left-none file s a cs how)) judged
-
-pub fields-sound : (count : ℕ) (old new : SourceView) (s : Section) (fixed : Option Fixed) (leaves : List Leaf) (a : ℕ) (cs : List State) (found : Option Fault) → found ≡ None → (s.count ≤ a) ⊎ (length cs ≡ 0) → FieldsSoFar count old s fixed leaves a cs found new → JudgesFields count old s fixed leaves new
-fields-sound count old new s fixed leaves a cs found none how so =
-    record { source = so.source; sound = rw none at (ended old s fixed leaves a cs found how so.judged) }
-
-pub fields-refused : (count : ℕ) (old new : SourceView) (s : Section) (fixed : Option Fixed) (leaves : List Leaf) (a : ℕ) (cs : List State) (found : Option Fault) (f : Fault) → found ≡ Some f → (s.count ≤ a) ⊎ (length cs ≡ 0) → FieldsSoFar count old s fixed leaves a cs found new → RefusesFields count old s fixed leaves (Refused f) new
-fields-refused count old new s fixed leaves a cs found f is how so = record { source = so.source; cause = rw is at (ended old s fixed leaves a cs found how so.judged) }
-
-give-up : (old : SourceView) (s : Section) (fixed : Option Fixed) (leaves : List Leaf) (fault : OpenFault) (new : SourceView) → IsGiveUp old fault new → IsFieldsCause old s fixed leaves fault new
-give-up old s fixed leaves (Refused found) new gives = absurd gives
-give-up old s fixed leaves Source new gives = gives
-give-up old s fixed leaves Memory new gives = gives
-
-give-before : (old mid new : SourceView) (fault : OpenFault) → old.faults ≤ mid.faults → IsGiveUp mid fault new → IsGiveUp old fault new
-give-before old mid new (Refused found) later gives = gives
-give-before old mid new Source later gives = rose_before old.faults mid.faults new.faults later gives
-give-before old mid new Memory later gives = tt
-
-pub fields-unopened : (count : ℕ) (old new : SourceView) (s : Section) (fixed : Option Fixed) (leaves : List Leaf) (fault : OpenFault) → GivesUp count old fault new → RefusesFields count old s fixed leaves fault new
-fields-unopened count old new s fixed leaves fault gives = record { source = gives.source; cause = give-up old s fixed leaves fault new gives.cause }
-
-pub fields-no_memory : (count : ℕ) (view : SourceView) (s : Section) (fixed : Option Fixed) (leaves : List Leaf) → RefusesFields count view s fixed leaves Memory view
-fields-no_memory count view s fixed leaves = record { source = asks_where_none (λ file. Unit {0}) count view; cause = tt }
-
-pub fields-lost : (count : ℕ) (old mid new : SourceView) (s : Section) (fixed : Option Fixed) (leaves : List Leaf) (a : ℕ) (cs : List State) (found : Option Fault) (fault : OpenFault) → FieldsSoFar count old s fixed leaves a cs found mid → ReadsNoRow count mid cs fault new → RefusesFields count old s fixed leaves fault new
-fields-lost count old mid new s fixed leaves a cs found fault so lost = record {
-  source = block-asks count old mid new cs so.source so.stand lost.source;
-  cause = give-up old s fixed leaves fault new (give-before old mid new fault so.source.asks.faults lost.cause);
-}
+    (λ file is sound. is sound ∙ ap (λ (o : Option Fault). option_or o found) (left-none file s a cs how)) so.judged

@@ -3,7 +3,7 @@ use Rattle.std.specs.Prelude.{◌≡◌, ℕ, zero, suc, ◌+◌, ◌-◌, ◌*�
 use Rattle.std.specs.Option.{option_or}
 use Rattle.std.specs.List.{AllByRecursion}
 use Rattle.std.proofs.Common.{refl, sym, subst, ap, ◌∙◌, arith, inl, inr, ⊎_elim}
-use Rattle.std.proofs.lemmas.Bool.{eq-eqb, ne_eqb, cases_lt, lt-ltb, le-ltb}
+use Rattle.std.proofs.lemmas.Bool.{ne_eqb, cases_lt, lt-ltb, le-ltb}
 use Rattle.e57_base.specs.Count.{rose_before}
 use Rattle.e57_base.specs.Fault.{read_as_open}
 use Rattle.e57_base.specs.Source.{SourceView}
@@ -19,32 +19,22 @@ use Rattle.e57_layout.specs.declared.field.Field.{Field}
 use Rattle.e57_layout.specs.declared.field.FieldKind.{FieldKind}
 use Rattle.e57_layout.specs.declared.field.FieldKind.TheVariants.{Int, Scaled, Bits32, Bits64, Text}
 use Rattle.e57_layout.specs.declared.field.Fixed.{Fixed}
-use Rattle.e57_layout.specs.declared.packet.Entry.{Entry}
 use Rattle.e57_layout.specs.declared.section.Section.{Section}
 use Rattle.e57_nodes.specs.Items.{leaves_of}
 use Rattle.e57_sections.specs.Section.{section_fault, section_at}
 use Rattle.e57_sections.specs.Walk.{walk_from}
-use Rattle.e57_sections.specs.Index.{index_fault, entries}
 use Rattle.e57_sections.specs.Chunks.{chunks, chunks_fault}
 use Rattle.e57_sections.specs.Cloud.{Leaf, Cloud, float_from, fixed_of, section_of, fields_fault, body_fault, cloud_fault}
-use Rattle.e57_sections.specs.Laws.Items.{IsBodySound}
-use Rattle.e57_sections.specs.Laws.Spans.{or-none}
 use Rattle.e57_section.specs.Opening.{LiesIn, header_place, header_within, OpensSection, OpensNoSection}
-use Rattle.e57_index.specs.Gathering.{AsksInside, GathersIndex, GathersNoIndex}
 use Rattle.e57_tree.specs.declared.items.Cloud.{Cloud as StatedCloud}
 use Rattle.e57_check.specs.Asking.{AsksPages, AsksWhere}
 use Rattle.e57_check.specs.AskingLaws.{asks_where_none, asks_where_on, asks_anywhere, unkept_pages, span_below}
 use Rattle.e57_check.specs.Starts.{IsWidth, IsField}
-use Rattle.e57_check.specs.Passing.{packets_fault, Passes, PassesNot}
-use Rattle.e57_check.specs.Judging.{JudgesFields, RefusesFields}
-use Rattle.e57_check.specs.Clouds.{IsRefusal, Refuses, index_fault_of, AreOf, OpensStarts, OpensNoStarts, JudgesBody, RefusesBody, cloud_of, JudgesCloud, RefusesCloud}
+use Rattle.e57_check.specs.Clouds.{Refuses, index_fault_of, AreOf, OpensStarts, OpensNoStarts, IsIndexed, JudgesRecords, RefusesRecords, JudgesBody, RefusesBody, cloud_of, JudgesCloud, RefusesCloud}
 use Rattle.e57_check.specs.declared.starts.Starts.{Starts}
-use Rattle.e57_check.specs.declared.starts.Starts.TheVariants.{Indexed, Counted}
+use Rattle.e57_check.proofs.Passed.{told-always}
 
 -- ---- one thing after another
-
-anywhere : List ℕ → Type 0
-anywhere file = Unit {0}
 
 -- what is refused later
 pub refuses-later : (first judge : List ℕ → Option Fault) (count : ℕ) (old mid new : SourceView) (found : OpenFault) → AsksWhere (λ file. Unit {0}) count old mid → IfSome old.held (λ file. (f : Fault) → first file ≡ Some f → judge file ≡ Some f) → Refuses first count mid found new → Refuses judge count old found new
@@ -61,155 +51,49 @@ refuses-later first judge count old mid new Memory asks each lost = record { sou
 
 -- ---- the index
 
-inside-pages : (s : Section) (count : ℕ) (old new : SourceView) → s.end ≤ count * 1020 → s.start ≤ s.end → AsksInside s old new → AsksPages count old new
-inside-pages s count old new within order asks = record { pages = asks.pages; within = each asks.pages asks.within; asks = asks.asks }
-  where
-    each : (pages : List ℕ) → AllByRecursion (λ (p : ℕ). (s.start / 1020 ≤ p) × (p < span_end s.start (s.end - s.start))) pages → AllByRecursion (λ (p : ℕ). p < count) pages
-    each [] all = tt
-    each (p ∷ pages) all =
-        let high = all.0.1 in
-        let below = span_below s.start (s.end - s.start) count (omega (arith, within, order)) in
-        (omega (arith, high, below), each pages all.1)
-
-pub starts-counted : (count : ℕ) (view : SourceView) (s : Section) (fixed : Option Fixed) → s.index ≡ 0 → IsField s fixed → IsWidth fixed → OpensStarts count view s fixed (Counted fixed) view
-starts-counted count view s fixed none field width = record {
-  passed = record { source = asks_where_none (λ file. Unit {0}) count view; sound = sound view.held };
-  are = (field, width);
-  of_file = of view.held;
-}
-  where
-    plain : (s.index == 0) ≡ true
-    plain = eq-eqb s.index 0 none
-
-    sound : (held : Option (List ℕ)) → IfSome held (λ file. index_fault_of s file ≡ None)
-    sound None = tt
-    sound (Some file) = rw plain refl
-
-    of : (held : Option (List ℕ)) → IfSome held (λ file. ((s.index == 0) ≡ true) × (fixed ≡ fixed))
-    of None = tt
-    of (Some file) = (plain, refl)
-
-pub starts-indexed : (count : ℕ) (old new : SourceView) (s : Section) (fixed : Option Fixed) (es : List Entry) → s.index ≢ 0 → s.end ≤ count * 1020 → s.start ≤ s.end → GathersIndex old s es new → OpensStarts count old s fixed (Indexed es) new
-starts-indexed count old new s fixed es some within order gathers =
-    let indexed = ne_eqb s.index 0 some in
-    record {
-      passed = record {
-        source = asks_anywhere (λ file. Unit {0}) count old new (inside-pages s count old new within order gathers.source);
-        sound = told_map (λ file. index_fault file s ≡ None) (λ file. index_fault_of s file ≡ None) old.held (λ file none. rw indexed none) gathers.sound;
-      };
-      are = tt;
-      of_file = told_map (λ file. es ≡ entries file s) (λ file. ((s.index == 0) ≡ false) × (es ≡ entries file s)) old.held (λ file is. (indexed, is)) gathers.is;
-    }
-
-pub starts-refused : (count : ℕ) (old new : SourceView) (s : Section) (found : OpenFault) → s.index ≢ 0 → s.end ≤ count * 1020 → s.start ≤ s.end → GathersNoIndex old s found new → OpensNoStarts count old s found new
-starts-refused count old new s found some within order gathers = record {
-  source = asks_anywhere (λ file. Unit {0}) count old new (inside-pages s count old new within order gathers.source);
-  cause = by_fault found gathers.cause;
-}
-  where
-    by_fault : (found : OpenFault) → Rattle.e57_index.specs.Gathering.IsGatherCause old (λ file. index_fault file s) found new → IsRefusal (index_fault_of s) old found new
-    by_fault (Refused f) cause = told_map (λ file. index_fault file s ≡ Some f) (λ file. index_fault_of s file ≡ Some f) old.held (λ file is. rw (ne_eqb s.index 0 some) is) cause.1
-    by_fault Source cause = cause
-    by_fault Memory cause = tt
-
 -- ---- the body
-
-packets-are : (file : List ℕ) (s : Section) (fixed : Option Fixed) (starts : Starts) → AreOf file s fixed starts → packets_fault file s starts ≡ option_or (walk_from file s s.data_place).fault (chunks_fault file s fixed)
-unfolding packets_fault chunks_fault
-packets-are file s fixed (Indexed es) are = rw (are.0, are.1) refl
-packets-are file s fixed (Counted f) are = rw (are.0, are.1) refl
 
 body-index : (file : List ℕ) (s : Section) (fixed : Option Fixed) (leaves : List Leaf) (f : Fault) → index_fault_of s file ≡ Some f → body_fault file s fixed leaves ≡ Some f
 unfolding body_fault
 body-index file s fixed leaves f is = ap (λ (o : Option Fault). option_or o (option_or (walk_from file s s.data_place).fault (option_or (chunks_fault file s fixed) (fields_fault 0 leaves (chunks file s fixed))))) is
 
-or-some : (a b c : Option Fault) (f : Fault) → option_or a b ≡ Some f → option_or a (option_or b c) ≡ Some f
-or-some None (Some x) c f is = is
-or-some None None c f is = cc
-or-some (Some x) b c f is = is
-
-body-packets : (file : List ℕ) (s : Section) (fixed : Option Fixed) (leaves : List Leaf) (starts : Starts) (f : Fault) → index_fault_of s file ≡ None → AreOf file s fixed starts → packets_fault file s starts ≡ Some f → body_fault file s fixed leaves ≡ Some f
-unfolding body_fault
-body-packets file s fixed leaves starts f none are is =
-    ap (λ (o : Option Fault). option_or o (option_or (walk_from file s s.data_place).fault (option_or (chunks_fault file s fixed) (fields_fault 0 leaves (chunks file s fixed))))) none
-    ∙ or-some (walk_from file s s.data_place).fault (chunks_fault file s fixed) (fields_fault 0 leaves (chunks file s fixed)) f (sym (packets-are file s fixed starts are) ∙ is)
-
-body-fields : (file : List ℕ) (s : Section) (fixed : Option Fixed) (leaves : List Leaf) (starts : Starts) → 0 < s.count → index_fault_of s file ≡ None → AreOf file s fixed starts → packets_fault file s starts ≡ None
-    → IsBodySound file s fixed × (body_fault file s fixed leaves ≡ fields_fault 0 leaves (chunks file s fixed))
-unfolding body_fault
-body-fields file s fixed leaves starts some none are sound =
-    let both = or-none (walk_from file s s.data_place).fault (chunks_fault file s fixed) (sym (packets-are file s fixed starts are) ∙ sound) in (
-      record { some = some; index = none; packets = both.0; chunks_ok = both.1 },
-      ap (λ (o : Option Fault). option_or o (option_or (walk_from file s s.data_place).fault (option_or (chunks_fault file s fixed) (fields_fault 0 leaves (chunks file s fixed))))) none
-          ∙ ap (λ (o : Option Fault). option_or o (option_or (chunks_fault file s fixed) (fields_fault 0 leaves (chunks file s fixed)))) both.0
-          ∙ ap (λ (o : Option Fault). option_or o (fields_fault 0 leaves (chunks file s fixed))) both.1,
-    )
-
-pub body-no_memory : (count : ℕ) (view : SourceView) (s : Section) (fixed : Option Fixed) (leaves : List Leaf) → RefusesBody count view s fixed leaves Memory view
-body-no_memory count view s fixed leaves = record { source = asks_where_none (λ file. Unit {0}) count view; cause = tt }
-
-all-told : (P : List ℕ → Type 0) (held : Option (List ℕ)) → ((file : List ℕ) → P file) → IfSome held P
-all-told P None f = tt
-all-told P (Some file) f = f file
-
 pub body-unopened : (count : ℕ) (old new : SourceView) (s : Section) (fixed : Option Fixed) (leaves : List Leaf) (found : OpenFault) → OpensNoStarts count old s found new → RefusesBody count old s fixed leaves found new
 body-unopened count old new s fixed leaves found lost =
     refuses-later (index_fault_of s) (λ file. body_fault file s fixed leaves) count old old new found (asks_where_none (λ file. Unit {0}) count old)
-    (all-told (λ file. (f : Fault) → index_fault_of s file ≡ Some f → body_fault file s fixed leaves ≡ Some f) old.held (λ file f is. body-index file s fixed leaves f is)) lost
+    (told-always (λ file. (f : Fault) → index_fault_of s file ≡ Some f → body_fault file s fixed leaves ≡ Some f) old.held (λ file f is. body-index file s fixed leaves f is)) lost
 
-passes-refused : (count : ℕ) (old new : SourceView) (s : Section) (starts : Starts) (found : ReadFault) → PassesNot count old s starts found new → Refuses (λ file. packets_fault file s starts) count old (read_as_open found) new
-passes-refused count old new s starts (of_read.Refused f) lost = record { source = asks_anywhere (λ file. Unit {0}) count old new lost.source; cause = lost.cause.1 }
-passes-refused count old new s starts of_read.Source lost = record { source = asks_anywhere (λ file. Unit {0}) count old new lost.source; cause = lost.cause }
+indexed : (old : SourceView) (s : Section) (fixed : Option Fixed) (starts : Starts) → IfSome old.held (λ file. index_fault_of s file ≡ None) → IfSome old.held (λ file. AreOf file s fixed starts) → IfSome old.held (λ file. IsIndexed file s fixed starts)
+indexed old s fixed starts sound are = told_both (λ file. index_fault_of s file ≡ None) (λ file. AreOf file s fixed starts) (λ file. IsIndexed file s fixed starts) old.held (λ file none of. record { sound = none; are = of }) sound are
 
-pub body-unpassed : (count : ℕ) (old mid new : SourceView) (s : Section) (fixed : Option Fixed) (leaves : List Leaf) (starts : Starts) (found : ReadFault) (given : OpenFault) → given ≡ read_as_open found → OpensStarts count old s fixed starts mid → PassesNot count mid s starts found new → RefusesBody count old s fixed leaves given new
-body-unpassed count old mid new s fixed leaves starts found given same opens lost =
-    rw same (refuses-later (λ file. packets_fault file s starts) (λ file. body_fault file s fixed leaves) count old mid new (read_as_open found) opens.passed.source
-    (told_both (λ file. index_fault_of s file ≡ None) (λ file. AreOf file s fixed starts) (λ file. (f : Fault) → packets_fault file s starts ≡ Some f → body_fault file s fixed leaves ≡ Some f) old.held
-    (λ file none are f is. body-packets file s fixed leaves starts f none are is) opens.passed.sound opens.of_file)
-    (passes-refused count mid new s starts found lost))
+-- what holds where the index has no fault
+where-indexed : (P : List ℕ → Type 0) (old mid : SourceView) (s : Section) (fixed : Option Fixed) (starts : Starts) → mid.held ≡ old.held → IfSome old.held (λ file. IsIndexed file s fixed starts) → IfSome mid.held (λ file. IsIndexed file s fixed starts → P file) → IfSome old.held P
+where-indexed P old mid s fixed starts same is told =
+    told_both (λ file. IsIndexed file s fixed starts) (λ file. IsIndexed file s fixed starts → P file) P old.held (λ file is told. told is) is
+    (told_here (λ file. IsIndexed file s fixed starts → P file) mid.held old.held (sym same) told)
 
--- index, packets and chunks were judged
-passed-on : (count : ℕ) (old mid new : SourceView) (s : Section) (fixed : Option Fixed) (leaves : List Leaf) (starts : Starts) → 0 < s.count → OpensStarts count old s fixed starts mid → Passes count mid s starts new
-    → AsksWhere (λ file. Unit {0}) count old new × IfSome old.held (λ file. IsBodySound file s fixed × (body_fault file s fixed leaves ≡ fields_fault 0 leaves (chunks file s fixed)))
-passed-on count old mid new s fixed leaves starts some opens passes = (
-  asks_where_on (λ file. Unit {0}) count old mid new opens.passed.source (asks_anywhere (λ file. Unit {0}) count mid new passes.source),
-  told_both (λ file. (index_fault_of s file ≡ None) × AreOf file s fixed starts) (λ file. packets_fault file s starts ≡ None) (λ file. IsBodySound file s fixed × (body_fault file s fixed leaves ≡ fields_fault 0 leaves (chunks file s fixed))) old.held
-      (λ file both sound. body-fields file s fixed leaves starts some both.0 both.1 sound)
-      (told_both (λ file. index_fault_of s file ≡ None) (λ file. AreOf file s fixed starts) (λ file. (index_fault_of s file ≡ None) × AreOf file s fixed starts) old.held (λ file x y. (x, y)) opens.passed.sound opens.of_file)
-      (told_here (λ file. packets_fault file s starts ≡ None) mid.held old.held (sym opens.passed.source.asks.same.held) passes.sound),
-)
+body-sound : (count : ℕ) (old mid new : SourceView) (s : Section) (fixed : Option Fixed) (leaves : List Leaf) (starts : Starts) → OpensStarts count old s fixed starts mid → JudgesRecords count mid s starts fixed leaves new → JudgesBody count old s fixed leaves new
+body-sound count old mid new s fixed leaves starts opens judges = record {
+  source = asks_where_on (λ file. Unit {0}) count old mid new opens.passed.source judges.source;
+  sound = where-indexed (λ file. body_fault file s fixed leaves ≡ None) old mid s fixed starts opens.passed.source.asks.same.held (indexed old s fixed starts opens.passed.sound opens.of_file) judges.sound;
+}
 
-pub body-sound : (count : ℕ) (old mid later new : SourceView) (s : Section) (fixed : Option Fixed) (leaves : List Leaf) (starts : Starts) → 0 < s.count → OpensStarts count old s fixed starts mid → Passes count mid s starts later → JudgesFields count later s fixed leaves new → JudgesBody count old s fixed leaves new
-body-sound count old mid later new s fixed leaves starts some opens passes fields =
-    let on = passed-on count old mid later s fixed leaves starts some opens passes in
-    record {
-      source = asks_where_on (λ file. Unit {0}) count old later new on.0 fields.source;
-      sound = told_both (λ file. IsBodySound file s fixed × (body_fault file s fixed leaves ≡ fields_fault 0 leaves (chunks file s fixed))) (λ file. IsBodySound file s fixed → fields_fault 0 leaves (chunks file s fixed) ≡ None) (λ file. body_fault file s fixed leaves ≡ None) old.held
-          (λ file is none. is.1 ∙ none is.0) on.1
-          (told_here (λ file. IsBodySound file s fixed → fields_fault 0 leaves (chunks file s fixed) ≡ None) later.held old.held (sym on.0.asks.same.held) fields.sound);
-    }
+body-refused : (count : ℕ) (old mid new : SourceView) (s : Section) (fixed : Option Fixed) (leaves : List Leaf) (starts : Starts) (found : OpenFault) → OpensStarts count old s fixed starts mid → RefusesRecords count mid s starts fixed leaves found new → RefusesBody count old s fixed leaves found new
+body-refused count old mid new s fixed leaves starts (Refused f) opens lost = record {
+  source = asks_where_on (λ file. Unit {0}) count old mid new opens.passed.source lost.source;
+  cause = where-indexed (λ file. body_fault file s fixed leaves ≡ Some f) old mid s fixed starts opens.passed.source.asks.same.held (indexed old s fixed starts opens.passed.sound opens.of_file) lost.cause;
+}
+body-refused count old mid new s fixed leaves starts Source opens lost = record {
+  source = asks_where_on (λ file. Unit {0}) count old mid new opens.passed.source lost.source;
+  cause = rose_before old.faults mid.faults new.faults opens.passed.source.asks.faults lost.cause;
+}
+body-refused count old mid new s fixed leaves starts Memory opens lost = record { source = asks_where_on (λ file. Unit {0}) count old mid new opens.passed.source lost.source; cause = tt }
 
-pub body-refused : (count : ℕ) (old mid later new : SourceView) (s : Section) (fixed : Option Fixed) (leaves : List Leaf) (starts : Starts) (found : OpenFault) → 0 < s.count → OpensStarts count old s fixed starts mid → Passes count mid s starts later → RefusesFields count later s fixed leaves found new → RefusesBody count old s fixed leaves found new
-body-refused count old mid later new s fixed leaves starts (Refused f) some opens passes fields =
-    let on = passed-on count old mid later s fixed leaves starts some opens passes in
-    record {
-      source = asks_where_on (λ file. Unit {0}) count old later new on.0 fields.source;
-      cause = told_both (λ file. IsBodySound file s fixed × (body_fault file s fixed leaves ≡ fields_fault 0 leaves (chunks file s fixed))) (λ file. IsBodySound file s fixed → fields_fault 0 leaves (chunks file s fixed) ≡ Some f) (λ file. body_fault file s fixed leaves ≡ Some f) old.held
-          (λ file is has. is.1 ∙ has is.0) on.1
-          (told_here (λ file. IsBodySound file s fixed → fields_fault 0 leaves (chunks file s fixed) ≡ Some f) later.held old.held (sym on.0.asks.same.held) fields.cause);
-    }
-body-refused count old mid later new s fixed leaves starts Source some opens passes fields =
-    let on = passed-on count old mid later s fixed leaves starts some opens passes in
-    record { source = asks_where_on (λ file. Unit {0}) count old later new on.0 fields.source; cause = rose_before old.faults later.faults new.faults on.0.asks.faults fields.cause }
-body-refused count old mid later new s fixed leaves starts Memory some opens passes fields =
-    let on = passed-on count old mid later s fixed leaves starts some opens passes in
-    record { source = asks_where_on (λ file. Unit {0}) count old later new on.0 fields.source; cause = tt }
+pub body-result : (count : ℕ) (old mid new : SourceView) (s : Section) (fixed : Option Fixed) (leaves : List Leaf) (starts : Starts) (result : Result (Unit {0}) OpenFault) → OpensStarts count old s fixed starts mid
+    → MatchResult result (λ x. JudgesRecords count mid s starts fixed leaves new) (λ found. RefusesRecords count mid s starts fixed leaves found new) → MatchResult result (λ x. JudgesBody count old s fixed leaves new) (λ found. RefusesBody count old s fixed leaves found new)
+body-result count old mid new s fixed leaves starts (Ok x) opens judges = body-sound count old mid new s fixed leaves starts opens judges
+body-result count old mid new s fixed leaves starts (Err found) opens lost = body-refused count old mid new s fixed leaves starts found opens lost
 
 -- ---- the first Float field
-
-float-none : (f : ℕ) → float_from f [] ≡ None
-unfolding float_from
-float-none f = refl
 
 is-float : (f count : ℕ) (fields : List Field) → f + length fields ≤ count → IfSome (float_from f (leaves_of fields)) (λ fixed. (fixed.field < count) × ((fixed.bytes ≡ 4) ⊎ (fixed.bytes ≡ 8)))
 unfolding float_from
@@ -243,7 +127,7 @@ cloud-empty file c none = rw none refl
 pub cloud-nothing : (count : ℕ) (view : SourceView) (cloud : StatedCloud) (leaves : List Leaf) → cloud.count ≡ 0 → JudgesCloud count view cloud leaves view
 cloud-nothing count view cloud leaves none = record {
   source = asks_where_none (λ file. Unit {0}) count view;
-  sound = all-told (λ file. cloud_fault file (cloud_of cloud leaves) ≡ None) view.held (λ file. cloud-empty file (cloud_of cloud leaves) none);
+  sound = told-always (λ file. cloud_fault file (cloud_of cloud leaves) ≡ None) view.held (λ file. cloud-empty file (cloud_of cloud leaves) none);
 }
 
 cloud-section : (file : List ℕ) (c : Cloud) (f : Fault) → 0 < c.count → section_fault file c.node c.offset ≡ Some f → cloud_fault file c ≡ Some f
@@ -314,8 +198,3 @@ pub cloud-result : (kept now : List ℕ) (count : ℕ) (fields : List Field) (ol
     → MatchResult result (λ x. JudgesCloud count old cloud (leaves_of fields) new) (λ found. RefusesCloud count old cloud (leaves_of fields) found new)
 cloud-result kept now count fields old mid new cloud fixed s (Ok x) some is opens body = cloud-sound kept now count (length fields) old mid new cloud (leaves_of fields) fixed s some (length-leaves fields) is opens body
 cloud-result kept now count fields old mid new cloud fixed s (Err found) some is opens body = cloud-refused kept now count (length fields) old mid new cloud (leaves_of fields) fixed s found some (length-leaves fields) is opens body
-
-pub body-result : (count : ℕ) (old mid later new : SourceView) (s : Section) (fixed : Option Fixed) (leaves : List Leaf) (starts : Starts) (result : Result (Unit {0}) OpenFault) → 0 < s.count → OpensStarts count old s fixed starts mid → Passes count mid s starts later
-    → MatchResult result (λ x. JudgesFields count later s fixed leaves new) (λ found. RefusesFields count later s fixed leaves found new) → MatchResult result (λ x. JudgesBody count old s fixed leaves new) (λ found. RefusesBody count old s fixed leaves found new)
-body-result count old mid later new s fixed leaves starts (Ok x) some opens passes fields = body-sound count old mid later new s fixed leaves starts some opens passes fields
-body-result count old mid later new s fixed leaves starts (Err found) some opens passes fields = body-refused count old mid later new s fixed leaves starts found some opens passes fields

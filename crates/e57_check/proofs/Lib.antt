@@ -6,6 +6,7 @@ pub mod Judged
 pub mod Rows
 pub mod Openings
 pub mod Blocks
+pub mod Records
 pub mod Bodies
 pub mod Things
 pub mod Walking

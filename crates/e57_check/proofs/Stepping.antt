@@ -1,30 +1,24 @@
 -- One packet more, by what was loaded.
-use Rattle.std.specs.Prelude.{◌≡◌, ℕ, zero, suc, ◌+◌, ◌*◌, ◌≤◌, ◌==◌, ◌||◌, ◌&&◌, not, nat_lt, Bool, true, false, if◌then◌else◌, List, [], ◌∷◌, length, get_or, slice_get, Option, Some, None, IfSome}
+use Rattle.std.specs.Prelude.{◌≡◌, ℕ, zero, suc, ◌+◌, ◌*◌, ◌≤◌, Bool, false, List, [], ◌∷◌, length, get_or, Option, Some, None, IfSome}
 use Rattle.std.specs.Option.{option_or}
 use Rattle.std.proofs.Common.{refl, sym, subst, ap, ◌∙◌, arith, ⊎_elim}
 use Rattle.std.proofs.lemmas.Bool.{cond_both}
 use Rattle.std.proofs.lemmas.List.Sums.{sum-map, sum_by-cons}
 use Rattle.e57_base.specs.Source.{SourceView}
-use Rattle.e57_base.specs.Fault.{fault}
 use Rattle.e57_base.specs.Told.{told_map}
-use Rattle.e57_base.specs.declared.fault.Fault.{Fault}
 use Rattle.e57_base.specs.declared.fault.ReadFault.{ReadFault}
-use Rattle.e57_base.specs.declared.kind.Kind.TheVariants.{IndexTarget, RestartUnindexed}
 use Rattle.e57_page.specs.File.{logical}
-use Rattle.e57_page.specs.Place.{place}
 use Rattle.e57_layout.specs.Packets.{total, data_size}
-use Rattle.e57_layout.specs.declared.packet.Entry.{Entry}
 use Rattle.e57_layout.specs.declared.section.Section.{Section}
 use Rattle.e57_sections.specs.Walk.{Packet, packet_at}
-use Rattle.e57_sections.specs.Chunks.{compared}
 use Rattle.e57_section.specs.declared.load.Loaded.{Loaded}
 use Rattle.e57_section.specs.declared.load.Loaded.TheVariants.{Stream, Index, Empty}
 use Rattle.e57_section.specs.Loading.{loaded_length, needed_by, HoldsStreams, IsLoaded, loaded_as, LoadsPacket, LosesPacket}
 use Rattle.e57_section.specs.AskingLaws.{loaded_packet}
 use Rattle.e57_check.specs.Asking.{AsksPages}
 use Rattle.e57_check.specs.AskingLaws.{packet_pages}
-use Rattle.e57_check.specs.Starts.{AreStarts, float_bytes, float_items, items, entry_start_fault, start_fault, left_entry_fault, left_fault, begins, arrived}
-use Rattle.e57_check.specs.Passing.{is_pass_kind, IsWithin, came_with, Steps, StepsNot}
+use Rattle.e57_check.specs.Starts.{AreStarts, float_bytes, items, start_fault, begins, arrived}
+use Rattle.e57_check.specs.Passing.{IsWithin, came_with, Steps, StepsNot}
 use Rattle.e57_check.specs.declared.starts.Starts.{Starts}
 use Rattle.e57_check.specs.declared.starts.Starts.TheVariants.{Indexed, Counted}
 use Rattle.e57_check.specs.declared.starts.Came.{Came}
@@ -67,7 +61,7 @@ past-step count old new kept now s starts r answer held other inside within load
     let some = loads.some in
     record {
       source = loads-pages count old new kept now s r.taken answer held inside loads;
-      within = record { within = loads.within; counted = omega (arith, counted); starts = omega (arith, began); kind = within.kind };
+      within = record { within = loads.within; counted = omega (arith, counted); starts = omega (arith, began) };
       forward = omega (arith, some);
       sound = loads.sound;
       long = told_map (λ file. IsLoaded (logical file) r.taken answer held) (λ file. r.taken + loaded_length answer ≡ r.taken + (packet_at (logical file) r.taken).length) old.held
@@ -111,46 +105,6 @@ items-few s (Indexed es) bytes are = omega arith
 items-few s (Counted None) bytes are = omega arith
 items-few s (Counted (Some fixed)) bytes are = ⊎_elim (λ (four : fixed.bytes ≡ 4). rw four (omega arith)) (λ (eight : fixed.bytes ≡ 8). rw eight (omega arith)) are.1
 
--- a fault of a chunk start is of these kinds
-abbrev IsStartFault : Option Fault → Type 0
-IsStartFault found = IfSome found (λ f. is_pass_kind f.kind ≡ true)
-
-if-fault : (b : Bool) (x y : Option Fault) → IsStartFault x → IsStartFault y → IsStartFault (if b then x else y)
-if-fault true x y f g = f
-if-fault false x y f g = g
-
-compared-kind : (s : Section) (j : ℕ) (e : Entry) (q : ℕ) (at : Option ℕ) → IsStartFault (compared s j e q at)
-compared-kind s j e q None = refl
-compared-kind s j e q (Some at) = if-fault (at == q) None (if nat_lt 0 j && nat_lt q at then Some (fault RestartUnindexed s.node q) else Some (fault IndexTarget s.node e.first)) tt
-    (if-fault (nat_lt 0 j && nat_lt q at) (Some (fault RestartUnindexed s.node q)) (Some (fault IndexTarget s.node e.first)) refl refl)
-
-entry-kind : (s : Section) (j : ℕ) (entry : Option Entry) (q : ℕ) → IsStartFault (entry_start_fault s j entry q)
-entry-kind s j None q = refl
-entry-kind s j (Some e) q = compared-kind s j e q (place e.place)
-
-start-kind : (s : Section) (starts : Starts) (came : Came) (q : ℕ) → IsStartFault (start_fault s starts came q)
-start-kind s (Indexed es) came q = entry-kind s came.starts (slice_get es came.starts) q
-start-kind s (Counted fixed) came q =
-    let n = float_items fixed came.bytes in
-    if-fault (came.starts == 0) None (if n == 0 || not (nat_lt (came.first + n) s.count) then Some (fault RestartUnindexed s.node q) else None) tt
-    (if-fault (n == 0 || not (nat_lt (came.first + n) s.count)) (Some (fault RestartUnindexed s.node q)) None refl tt)
-
-or-kind : (a b : Option Fault) → IsStartFault a → IsStartFault b → IsStartFault (option_or a b)
-or-kind None b f g = g
-or-kind (Some x) b f g = f
-
-left-kind : (s : Section) (starts : Starts) (came : Came) → IsStartFault came.found → IsStartFault (left_fault s starts came)
-left-kind s (Indexed es) came kind = or-kind came.found (left_entry_fault s (slice_get es came.starts)) kind (entry-left s (slice_get es came.starts))
-  where
-    entry-left : (s : Section) (entry : Option Entry) → IsStartFault (left_entry_fault s entry)
-    entry-left s None = tt
-    entry-left s (Some e) = refl
-left-kind s (Counted fixed) came kind = kind
-
--- the kind of the fault that is left
-pub left-found : (s : Section) (starts : Starts) (came : Came) (found : Fault) → IsStartFault came.found → Some found ≡ left_fault s starts came → is_pass_kind found.kind ≡ true
-left-found s starts came found kind is = subst IsStartFault (sym is) (left-kind s starts came kind)
-
 arrived-within : (s : Section) (starts : Starts) (r : Passed) (q n : ℕ) (restart : Bool) (bytes : ℕ) → AreStarts s starts → IsWithin s r → 4 ≤ n → r.taken + n ≤ s.end → bytes ≤ n → IsWithin s (record { taken = r.taken + n; came = arrived s starts r.came q restart bytes })
 arrived-within s starts r q n restart bytes are within some inside few =
     let counted = within.counted in
@@ -160,8 +114,8 @@ arrived-within s starts r q n restart bytes are within some inside few =
     (record { starts = r.came.starts + 1; first = r.came.first + items starts r.came.bytes; bytes = bytes; found = option_or r.came.found (start_fault s starts r.came q) })
     (record { starts = r.came.starts; first = r.came.first; bytes = r.came.bytes + bytes; found = r.came.found })
     (λ (came : Came). IsWithin s (record { taken = r.taken + n; came = came }))
-    (λ yes. record { within = inside; counted = omega (arith, counted, least, few); starts = omega (arith, began, some); kind = or-kind r.came.found (start_fault s starts r.came q) within.kind (start-kind s starts r.came q) })
-    (λ no. record { within = inside; counted = omega (arith, counted, few); starts = omega (arith, began); kind = within.kind })
+    (λ yes. record { within = inside; counted = omega (arith, counted, least, few); starts = omega (arith, began, some) })
+    (λ no. record { within = inside; counted = omega (arith, counted, few); starts = omega (arith, began) })
 
 came-loaded : (b : List ℕ) (s : Section) (starts : Starts) (came : Came) (q n : ℕ) (restart : Bool) (held : Option (List (List ℕ))) (bytes : ℕ) → IfSome held (λ streams. bytes ≡ float_bytes starts streams) → IsLoaded b q (Stream n restart) held
     → arrived s starts came q restart bytes ≡ came_with s starts came (packet_at b q)

@@ -50,6 +50,28 @@ pub record OpensStarts (count : ℕ) (old : SourceView) (s : Section) (fixed : O
 abbrev pub OpensNoStarts : ℕ → SourceView → Section → OpenFault → SourceView → Type 0
 OpensNoStarts count old s found new = Refuses (index_fault_of s) count old found new
 
+-- ---- behind the index
+
+-- the index has no fault, and this is what chunk starts are judged by
+pub record IsIndexed (file : List ℕ) (s : Section) (fixed : Option Fixed) (starts : Starts) : Type 0 where
+  pub sound : index_fault_of s file ≡ None
+  pub are : AreOf file s fixed starts
+
+-- No packet, chunk or field has a fault, where the index has none.
+pub record JudgesRecords (count : ℕ) (old : SourceView) (s : Section) (starts : Starts) (fixed : Option Fixed) (leaves : List Leaf) (new : SourceView) : Type 0 where
+  pub source : AsksWhere (λ file. Unit {0}) count old new
+  pub sound : IfSome old.held (λ file. IsIndexed file s fixed starts → body_fault file s fixed leaves ≡ None)
+
+abbrev pub IsRecordsCause : SourceView → Section → Starts → Option Fixed → List Leaf → OpenFault → SourceView → Type 0
+IsRecordsCause old s starts fixed leaves (Refused found) new = IfSome old.held (λ file. IsIndexed file s fixed starts → body_fault file s fixed leaves ≡ Some found)
+IsRecordsCause old s starts fixed leaves Source new = Rose old.faults new.faults
+IsRecordsCause old s starts fixed leaves Memory new = Unit {0}
+
+-- one has, or the source failed, or memory ran out
+pub record RefusesRecords (count : ℕ) (old : SourceView) (s : Section) (starts : Starts) (fixed : Option Fixed) (leaves : List Leaf) (found : OpenFault) (new : SourceView) : Type 0 where
+  pub source : AsksWhere (λ file. Unit {0}) count old new
+  pub cause : IsRecordsCause old s starts fixed leaves found new
+
 -- ---- behind the header
 
 abbrev pub JudgesBody : ℕ → SourceView → Section → Option Fixed → List Leaf → SourceView → Type 0

@@ -158,19 +158,3 @@ IsColumnCause old s fixed f leaf Memory new = Unit {0}
 pub record OpensNoColumn (count : ℕ) (old : SourceView) (s : Section) (fixed : Option Fixed) (f : ℕ) (leaf : Leaf) (found : OpenFault) (new : SourceView) : Type 0 where
   pub source : AsksWhere (λ file. Unit {0}) count old new
   pub cause : IsColumnCause old s fixed f leaf found new
-
--- ---- the fields
-
--- no field has a fault
-pub record JudgesFields (count : ℕ) (old : SourceView) (s : Section) (fixed : Option Fixed) (leaves : List Leaf) (new : SourceView) : Type 0 where
-  pub source : AsksWhere (λ file. Unit {0}) count old new
-  pub sound : IfSome old.held (λ file. IsBodySound file s fixed → fields_fault 0 leaves (chunks file s fixed) ≡ None)
-
-abbrev pub IsFieldsCause : SourceView → Section → Option Fixed → List Leaf → OpenFault → SourceView → Type 0
-IsFieldsCause old s fixed leaves (Refused found) new = IfSome old.held (λ file. IsBodySound file s fixed → fields_fault 0 leaves (chunks file s fixed) ≡ Some found)
-IsFieldsCause old s fixed leaves Source new = Rose old.faults new.faults
-IsFieldsCause old s fixed leaves Memory new = Unit {0}
-
-pub record RefusesFields (count : ℕ) (old : SourceView) (s : Section) (fixed : Option Fixed) (leaves : List Leaf) (found : OpenFault) (new : SourceView) : Type 0 where
-  pub source : AsksWhere (λ file. Unit {0}) count old new
-  pub cause : IsFieldsCause old s fixed leaves found new

@@ -10,14 +10,13 @@ ghost use Rattle.e57_tree.specs.Held.{AreCloudFields};
 ghost use Rattle.e57_check.specs.Starts.{IsField, IsWidth};
 ghost use Rattle.e57_check.specs.Clouds.{OpensStarts, OpensNoStarts, JudgesBody, RefusesBody, JudgesCloud, RefusesCloud};
 
-use crate::fields::judge_fields;
-use crate::packets::judge_packets;
+use crate::body::judge_records;
 use crate::starts::Starts;
 use e57_base::{OpenFault, Source};
 use e57_index::all_entries;
 use e57_layout::{Field, Fixed, Section};
 use e57_page::Pages;
-use e57_section::{Packet, open_section};
+use e57_section::open_section;
 use e57_tree::Cloud;
 use std::alloc::Global;
 
@@ -69,17 +68,11 @@ fn judge_body<S: Source>(
         (λ _. JudgesBody count (S.view pages.old.source) section.now fixed (leaves_of fields.now) (S.view pages.new.source))
         (λ found. RefusesBody count (S.view pages.old.source) section.now fixed (leaves_of fields.now) found (S.view pages.new.source)) }
 {
-    let Ok(mut packet) = Packet::new(alloc) else {
-        return Err(OpenFault::Memory);
-    };
     let starts = match open_starts(alloc, section, fixed, pages) {
         Ok(starts) => starts,
         Err(fault) => return Err(fault),
     };
-    if let Err(fault) = judge_packets(section, &starts, pages, &mut packet) {
-        return Err(OpenFault::from(fault));
-    }
-    judge_fields(alloc, section, fixed, fields, pages)
+    judge_records(alloc, section, &starts, fixed, fields, pages)
 }
 
 /// What the chunk starts of a section are judged by: the entries of its index, if it has one and its index has no fault.

@@ -1,4 +1,4 @@
-//! The fields of a cloud, in order, each over its records.
+//! The fields of a cloud side by side, some records at a time.
 
 ghost use Rattle.std.specs.Prelude.{◌≡◌, ◌+◌, ◌*◌, ◌/◌, ◌≤◌, ◌<◌, length, is_some, IsSome, IfSome, MatchResult};
 ghost use Rattle.e57_base.specs.Source.{page_length};
@@ -9,7 +9,7 @@ ghost use Rattle.e57_sections.specs.PathItem.{constant_of};
 ghost use Rattle.e57_section.specs.Opening.{LiesIn};
 ghost use Rattle.e57_tree.specs.Held.{AreCloudFields};
 ghost use Rattle.e57_check.specs.Starts.{IsField, IsWidth};
-ghost use Rattle.e57_check.specs.Judging.{AllAt, Judges, OpensColumns, GivesUp, JudgesBlock, ReadsNoRow, JudgesFields, RefusesFields, IsNoRefusal};
+ghost use Rattle.e57_check.specs.Judging.{AllAt, OpensColumns, GivesUp, JudgesBlock, ReadsNoRow, IsNoRefusal};
 
 use crate::block::{BLOCK, Block};
 use crate::judge::{Judge, open_column};
@@ -28,51 +28,18 @@ pub struct Judging {
     pub found: Option<Fault>,
 }
 
-/// Judges the items of a section's fields in order (ASTM E2807, bytestreams). Its index, packets and chunks have no fault.
-///
-/// All fields are read side by side, some records at a time. Once a field has a fault, it and those behind it are read no
-/// further, since only a fault of a field before it comes first. A field whose items take no bits isn't read.
-pub fn judge_fields<S: Source>(
-    alloc: Global,
-    section: &Section,
-    fixed: Option<Fixed>,
-    fields: &[Field],
-    pages: &mut Pages<S>,
-) -> Result<(), OpenFault>
-    requires lies { LiesIn section.now (pages.old.length / page_length * payload_length) }
-    requires as_many { length fields.now ≡ section.now.fields }
-    requires fields { AreCloudFields fields.now }
-    requires fixed_field { IsField section.now fixed }
-    requires fixed_width { IsWidth fixed }
-    ensures length { pages.new.length ≡ pages.old.length }
-    ensures header { pages.new.header ≡ pages.old.header }
-    ensures fields { let count = pages.old.length / page_length in MatchResult result
-        (λ _. JudgesFields count (S.view pages.old.source) section.now fixed (leaves_of fields.now) (S.view pages.new.source))
-        (λ found. RefusesFields count (S.view pages.old.source) section.now fixed (leaves_of fields.now) found (S.view pages.new.source)) }
-{
-    let Ok(mut block) = Block::new(alloc) else {
-        return Err(OpenFault::Memory);
-    };
-    let mut judging = match open_columns(alloc, section, fixed, fields, pages) {
-        Ok(judging) => judging,
-        Err(fault) => return Err(fault),
-    };
-    let mut at = 0;
-    while at < section.count && !judging.columns.is_empty() {
-        let n = block_length(section.count - at);
-        if let Err(fault) = judge_block(section, &mut judging, &mut block, pages, at, n) {
-            return Err(fault);
+impl Judging {
+    /// The logical place up to which the first of the columns took packets; 0 if there is no column.
+    pub fn taken(&self) -> u64 {
+        match self.columns.first() {
+            Some(column) => column.taken(),
+            None => 0,
         }
-        at += n as u64;
-    }
-    match judging.found {
-        Some(found) => Err(OpenFault::Refused(found)),
-        None => Ok(()),
     }
 }
 
 /// How many of the records that are left are read at a time.
-fn block_length(left: u64) -> usize
+pub fn block_length(left: u64) -> usize
     requires { 0 < left }
     ensures some { 0 < result }
     ensures few { result ≤ 1024 }
@@ -85,8 +52,9 @@ fn block_length(left: u64) -> usize
     }
 }
 
-/// Reads `n` records from record `at` on of the columns, and keeps those before the first one with a fault.
-fn judge_block<S: Source>(
+/// Reads `n` records from record `at` on of the columns, and keeps those before the first one with a fault. The others are read
+/// no further, since only a fault of a field before that one comes first.
+pub fn judge_block<S: Source>(
     section: &Section,
     judging: &mut Judging,
     block: &mut Block,
@@ -116,7 +84,7 @@ fn judge_block<S: Source>(
 
 /// Opens the columns of the fields whose items take bits, at their first records, up to the first one whose first item has a
 /// fault.
-fn open_columns<S: Source>(
+pub fn open_columns<S: Source>(
     alloc: Global,
     section: &Section,
     fixed: Option<Fixed>,

@@ -52,6 +52,13 @@ impl Model for Judge {
     ghost invariant = { λ judge. item_sort (kind_of judge.column.items) ≡ judge.sort };
 }
 
+impl Judge {
+    /// The logical place up to which the column took packets of the chunk in which it stood last; 0 if it stood in none.
+    pub fn taken(&self) -> u64 {
+        self.column.taken()
+    }
+}
+
 /// Opens the column of field `f`, at its first record.
 pub fn open_column<S: Source>(
     alloc: Global,

@@ -3,6 +3,7 @@
 #![tactic(auto)]
 
 mod block;
+mod body;
 mod cloud;
 mod fields;
 mod item;
@@ -14,7 +15,5 @@ mod step;
 mod summary;
 mod verdict;
 
-pub use packets::judge_packets;
-pub use starts::Starts;
 pub use summary::Summary;
 pub use verdict::check;

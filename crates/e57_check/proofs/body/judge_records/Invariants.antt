@@ -1,12 +1,12 @@
 use Rattle.std.proofs.Common.{◌≡◌, ◌-◌, ◌/◌}
 use Rattle.e57_base.specs.Source.{page_length}
 use Rattle.e57_nodes.specs.Items.{leaves_of}
-use Rattle.e57_check.proofs.Blocks.{FieldsSoFar}
-use Rattle.e57_check.proofs.fields.judge_fields.Given as goal
+use Rattle.e57_check.proofs.Records.{SoFar}
+use Rattle.e57_check.proofs.body.judge_records.Given as goal
 
 abbrev pub invariant-loop-at : goal.invariant-loop-at
 invariant-loop-at g l =
-    FieldsSoFar (l.fn.pages.length / page_length) (g.S.Source.view l.fn.pages.source) l.section l.fn.fixed (leaves_of l.fields) l.at l.judging.columns.items l.judging.found (g.S.Source.view l.pages.source)
+    SoFar (l.fn.pages.length / page_length) (g.S.Source.view l.fn.pages.source) l.section l.starts l.fn.fixed (leaves_of l.fields) l.passed l.at l.judging.columns.items l.judging.found (g.S.Source.view l.pages.source)
     × (l.pages.length ≡ l.fn.pages.length)
     × (l.pages.header ≡ l.fn.pages.header)
 
