@@ -2,6 +2,16 @@
 #![tactic(auto)]
 
 #[cfg(test)]
+mod cases;
+#[cfg(test)]
+mod fields;
+#[cfg(test)]
 mod made;
 #[cfg(test)]
+mod reader;
+#[cfg(test)]
 mod sections;
+#[cfg(test)]
+mod texts;
+#[cfg(test)]
+mod widths;

@@ -32,23 +32,35 @@ pub fn opened(alloc: Global, rest: &[u8], edits: &[Edit]) -> Result<Pages<MemSou
     }
 }
 
-/// The open file with a section at place 48, of which these packets stand `gap` bytes behind its header, and whose header
-/// states this physical offset of its index.
+/// The open file with a section at place 48, of which these packets stand `gap` bytes behind its header, and behind them an
+/// index of these first records and physical offsets of chunks, if there are some.
 pub fn opened_section(
     alloc: Global,
     gap: u16,
     packets: &[u8],
-    index: u64,
+    entries: &[(u64, u64)],
 ) -> Result<Pages<MemSource>, Fail> {
-    let length = (packets.len() % 100_000_000) as u64 + gap as u64 + 32;
     let data = gap as u64 + 80;
+    let end = data + (packets.len() % 100_000_000) as u64;
+    let mut bytes = packets.to_vec(alloc)?;
+    let mut index = 0;
+    if !entries.is_empty() {
+        add_index(&mut bytes, entries)?;
+        index = offset(end);
+    }
+    let length = (bytes.len() % 100_000_000) as u64 + gap as u64 + 32;
     let mut rest = b"\x01\0\0\0\0\0\0\0".to_vec(alloc)?;
     rest.extend_from_slice(&length.to_le_bytes())?;
-    rest.extend_from_slice(&(data / 1020 * 1024 + data % 1020).to_le_bytes())?;
+    rest.extend_from_slice(&offset(data).to_le_bytes())?;
     rest.extend_from_slice(&index.to_le_bytes())?;
     rest.resize(gap as usize + 32, 0)?;
-    rest.extend_from_slice(packets)?;
+    rest.extend_from_slice(&bytes)?;
     opened(alloc, &rest, &[])
+}
+
+// The physical offset of a place.
+fn offset(place: u64) -> u64 {
+    place.wrapping_add(place / 1020 * 4)
 }
 
 /// Adds a data packet with these streams.
@@ -78,8 +90,8 @@ fn lengths(alloc: Global, streams: &[&[u8]]) -> Result<Vec<u8>, AllocError> {
     Ok(bytes)
 }
 
-/// Adds an index packet of level 0 with these first records and physical offsets.
-pub fn add_index(packets: &mut Vec<u8>, entries: &[(u64, u64)]) -> Result<(), AllocError> {
+// Adds an index packet of level 0 with these first records and physical offsets.
+fn add_index(packets: &mut Vec<u8>, entries: &[(u64, u64)]) -> Result<(), AllocError> {
     let count = entries.len() % 1000;
     packets.extend_from_slice(b"\0\0")?;
     packets.extend_from_slice(&((count * 16 + 15) as u16).to_le_bytes())?;
