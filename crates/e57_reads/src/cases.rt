@@ -202,15 +202,20 @@ fn faulty_packet_is_not_met_until_an_item_needs_it(rt: HostRuntime) -> Result<()
     Ok(())
 }
 
+// A packet with one item of the Float field and three bytes beside it, and a faulty packet at 100.
+fn one_counted(alloc: Global, float: Option<u16>) -> Result<Reader, Fail> {
+    let mut packets = b"".to_vec(alloc)?;
+    add_packet(&mut packets, true, &[b"\0\0\x80\x3f\0\0", b"\x01\x02\x03"])?;
+    packets.extend_from_slice(FAULTY)?;
+    opened(alloc, 0, &packets, NONE, beside(3, float))
+}
+
 // A record is counted by the Float field before it is read. So a faulty packet is met where that field needs it, also if the
 // field's own stream has more items.
 #[test]
 fn faulty_packet_is_met_where_the_float_field_needs_it(rt: HostRuntime) -> Result<(), Fail> {
     let faulty = refused(Kind::PacketType, NODE as u64, 100);
-    let mut packets = b"".to_vec(rt.alloc())?;
-    add_packet(&mut packets, true, &[b"\0\0\x80\x3f\0\0", b"\x01\x02\x03"])?;
-    packets.extend_from_slice(FAULTY)?;
-    let mut counted = opened(rt.alloc(), 0, &packets, NONE, beside(3, Some(0)))?;
+    let mut counted = one_counted(rt.alloc(), Some(0))?;
     let steps = [
         (0, 1, b"\x01".as_slice(), None, 100),
         (STAY, 8, b"", faulty, 100),
@@ -218,7 +223,7 @@ fn faulty_packet_is_met_where_the_float_field_needs_it(rt: HostRuntime) -> Resul
         (0, 8, b"\x01", faulty, 100),
     ];
     assert_eq!(rt; first_other(&mut counted, &steps), None);
-    let mut uncounted = opened(rt.alloc(), 0, &packets, NONE, beside(3, None))?;
+    let mut uncounted = one_counted(rt.alloc(), None)?;
     let steps = [(0, 8, b"\x01\x02\x03".as_slice(), None, 100)];
     assert_eq!(rt; first_other(&mut uncounted, &steps), None);
     Ok(())
@@ -244,18 +249,31 @@ fn two_chunks_at_one_place(rt: HostRuntime) -> Result<(), Fail> {
     Ok(())
 }
 
-// Two items of a Float field are cut into two packets, and both integers beside it stand in the first packet. The second read
-// goes on in the chunk: no packet is taken back.
+// Two items of a Float field, cut into two packets, and two bytes beside them in the first one, which has `at` bytes of the
+// Float field.
+fn cut_at(alloc: Global, at: usize) -> Result<Reader, Fail> {
+    let (first, second) = b"\0\0\x80\x3f\0\0\0\x40".split_at(at.min(8));
+    let mut packets = b"".to_vec(alloc)?;
+    add_packet(&mut packets, true, &[first, b"\x05\x06"])?;
+    add_packet(&mut packets, false, &[second, b""])?;
+    opened(alloc, 0, &packets, NONE, beside(2, Some(0)))
+}
+
+// The second read goes on in the chunk: no packet is taken back, and none beyond the first one.
 #[test]
 fn float_field_in_two_packets(rt: HostRuntime) -> Result<(), Fail> {
-    let floats = b"\0\0\x80\x3f\0\0\0\x40".as_slice();
-    for at in 0..9usize {
-        let (first, second) = floats.split_at(at);
-        let mut packets = b"".to_vec(rt.alloc())?;
-        add_packet(&mut packets, true, &[first, b"\x05\x06"])?;
-        let end = 80 + (packets.len() % 900) as u64;
-        add_packet(&mut packets, false, &[second, b""])?;
-        let mut reader = opened(rt.alloc(), 0, &packets, NONE, beside(2, Some(0)))?;
+    for (at, end) in [
+        (0, 92),
+        (1, 96),
+        (2, 96),
+        (3, 96),
+        (4, 96),
+        (5, 100),
+        (6, 100),
+        (7, 100),
+        (8, 100),
+    ] {
+        let mut reader = cut_at(rt.alloc(), at)?;
         let steps = [
             (0, 1, b"\x05".as_slice(), None, end),
             (STAY, 1, b"\x06", None, end),
@@ -266,25 +284,34 @@ fn float_field_in_two_packets(rt: HostRuntime) -> Result<(), Fail> {
     Ok(())
 }
 
-// Two chunks, of two records and of one. Of the integers one is missing at the end of the first chunk, and the second chunk
-// begins at 100.
+// Two chunks, of two records and of one. Of the bytes beside the Float field one is missing at the end of the first chunk. The
+// second chunk begins at 100.
+fn short_chunk(alloc: Global, is_indexed: bool, float: Option<u16>) -> Result<Reader, Fail> {
+    let mut packets = b"".to_vec(alloc)?;
+    add_packet(&mut packets, true, &[b"\0\0\x80\x3f\0\0\0\x40", b"\x01"])?;
+    add_packet(&mut packets, true, &[b"\0\0\x40\x40", b"\x03"])?;
+    let entries = if is_indexed {
+        &[(0, 80), (2, 100)][..]
+    } else {
+        NONE
+    };
+    opened(alloc, 0, &packets, entries, beside(3, float))
+}
+
+// The stream is short where an index or a Float field tells the chunks. With neither, the second chunk is the fault.
 #[test]
 fn chunk_that_ends_too_soon(rt: HostRuntime) -> Result<(), Fail> {
     let short = refused(Kind::StreamShort, 1, FIELD as u64);
     let restart = refused(Kind::RestartUnindexed, NODE as u64, 100);
-    let mut packets = b"".to_vec(rt.alloc())?;
-    add_packet(&mut packets, true, &[b"\0\0\x80\x3f\0\0\0\x40", b"\x01"])?;
-    add_packet(&mut packets, true, &[b"\0\0\x40\x40", b"\x03"])?;
-    let entries = [(0, 80), (2, 100)];
     let found = (2, 8, b"\x03".as_slice(), None, 116);
     let none = (2, 8, b"".as_slice(), restart, 100);
-    for (entries, float, fault, last) in [
-        (NONE, Some(0), short, found),
-        (entries.as_slice(), Some(0), short, found),
-        (entries.as_slice(), None, short, found),
-        (NONE, None, restart, none),
+    for (is_indexed, float, fault, last) in [
+        (false, Some(0), short, found),
+        (true, Some(0), short, found),
+        (true, None, short, found),
+        (false, None, restart, none),
     ] {
-        let mut reader = opened(rt.alloc(), 0, &packets, entries, beside(3, float))?;
+        let mut reader = short_chunk(rt.alloc(), is_indexed, float)?;
         let steps = [(0, 8, b"\x01".as_slice(), fault, 100), last];
         assert_eq!(rt; first_other(&mut reader, &steps), None);
     }

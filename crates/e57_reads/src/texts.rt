@@ -5,7 +5,7 @@ use crate::made::{NODE, add_packet, opened_section};
 use crate::reader::{Reader, STAY, Shape};
 use e57_base::{Fault, Kind, ReadFault};
 use e57_column::{Stopped, TextsRead};
-use std::alloc::Global;
+use std::alloc::{AllocError, Global};
 use std::test::Fail;
 
 // The column of strings of a section with these packets, which begin at place 80, or on page 1 if `gap` is 940. Behind them
@@ -206,16 +206,23 @@ fn faulty_packet_is_not_met_until_a_string_needs_it(rt: HostRuntime) -> Result<(
     Ok(())
 }
 
-// What a read of one string into this room answers, of a stream that is a prefix alone.
+// Room for a string of 2^24 + 1 bytes.
+fn room(alloc: Global) -> Result<Vec<u8>, AllocError> {
+    vec![in alloc; 0; 16_777_217]
+}
+
+// What a read of one string into so many bytes of this room answers, of a stream that is a prefix alone.
 fn read_one(
     alloc: Global,
     stream: &[u8],
     room: &mut [u8],
+    places: usize,
 ) -> Result<Result<TextsRead, Stopped>, Fail> {
     let mut reader = of_packet(alloc, 0, stream, 1)?;
     let mut ends = [UNTOUCHED; 1];
+    let places = places.min(room.len());
     match reader.go(0) {
-        Ok(()) => Ok(reader.strings(room, &mut ends)),
+        Ok(()) => Ok(reader.strings(&mut room[..places], &mut ends)),
         Err(stopped) => Ok(Err(stopped)),
     }
 }
@@ -240,7 +247,7 @@ fn longest_string(rt: HostRuntime) -> Result<(), Fail> {
         count: 0,
         need: Some(16_777_216),
     });
-    let mut room = vec![in rt.alloc(); 0; 16_777_217]?;
+    let mut room = room(rt.alloc())?;
     for (stream, places, wanted) in [
         (over, 16_777_217, stopped(Kind::StringLimit)),
         (over, 16_777_216, stopped(Kind::StringLimit)),
@@ -248,7 +255,7 @@ fn longest_string(rt: HostRuntime) -> Result<(), Fail> {
         (most, 16_777_216, stopped(Kind::StreamShort)),
         (most, 16_777_215, need),
     ] {
-        let answer = read_one(rt.alloc(), stream, &mut room[..places])?;
+        let answer = read_one(rt.alloc(), stream, &mut room, places)?;
         assert_eq!(rt; answer, wanted, "{stream:?} into {places} bytes");
     }
     Ok(())

@@ -91,31 +91,33 @@ fn is_filled(out: &[i64], wanted: &[i64]) -> bool {
     true
 }
 
-// Whether a read into so many places gives just these integers.
-fn reads(reader: &mut Reader, wanted: &[i64], places: usize) -> bool {
-    let mut out = [UNTOUCHED; 1024];
-    let answer = reader.ints(&mut out[..places.min(1024)]);
-    answer == Ok(wanted.len()) && is_filled(&out, wanted)
+// Whether a read into this buffer gives just these integers.
+fn reads(reader: &mut Reader, wanted: &[i64], out: &mut [i64]) -> bool {
+    out.fill(UNTOUCHED);
+    let answer = reader.ints(out);
+    answer == Ok(wanted.len()) && is_filled(out, wanted)
 }
 
-// Whether reads into so many places give just these integers from record `i` on, and then none.
-fn reads_from(reader: &mut Reader, i: usize, wanted: &[i64], places: usize) -> bool {
-    if places == 0 || reader.go(i as u64) != Ok(()) || !reader.stands_behind(i as u64, 0) {
+// Whether reads into this buffer give just these integers from record `i` on, and then none.
+fn reads_from(reader: &mut Reader, i: usize, wanted: &[i64], out: &mut [i64]) -> bool {
+    if out.is_empty() || reader.go(i as u64) != Ok(()) || !reader.stands_behind(i as u64, 0) {
         return false;
     }
-    for part in wanted.chunks(places) {
-        if !reads(reader, part, places) {
+    for part in wanted.chunks(out.len()) {
+        if !reads(reader, part, out) {
             return false;
         }
     }
-    reads(reader, &[], places)
+    reads(reader, &[], out)
 }
 
 // The size of the first buffer of which reads of all records, or of those from record `middle` on, are wrong.
 fn wrong_size(reader: &mut Reader, wanted: &[i64], middle: usize) -> Option<usize> {
     let rest = wanted.get(middle..).unwrap_or(&[]);
+    let mut out = [UNTOUCHED; 1024];
     for places in [1, 7, 8, 1024] {
-        if !reads_from(reader, 0, wanted, places) || !reads_from(reader, middle, rest, places) {
+        let out = &mut out[..places];
+        if !reads_from(reader, 0, wanted, out) || !reads_from(reader, middle, rest, out) {
             return Some(places);
         }
     }
@@ -148,7 +150,7 @@ fn wrong(alloc: Global, width: u8, size: usize, count: u16) -> Result<Option<usi
 fn every_width_cut_and_buffer(rt: HostRuntime) -> Result<(), Fail> {
     for width in 1..65u8 {
         for size in 0..10usize {
-            let found = wrong(rt.alloc(), width, size, 80)?;
+            let found = wrong(rt.alloc(), width, size, 60)?;
             assert_eq!(rt; found, None, "{width} bits, pieces of {size} bytes");
         }
     }
@@ -158,10 +160,12 @@ fn every_width_cut_and_buffer(rt: HostRuntime) -> Result<(), Fail> {
 #[test]
 fn more_records_than_a_buffer_has_places(rt: HostRuntime) -> Result<(), Fail> {
     for width in 1..65u8 {
-        for size in [0, 9, 1000] {
-            let found = wrong(rt.alloc(), width, size, 1100)?;
-            assert_eq!(rt; found, None, "{width} bits, pieces of {size} bytes");
-        }
+        let found = wrong(rt.alloc(), width, 1000, 1100)?;
+        assert_eq!(rt; found, None, "{width} bits, pieces of 1000 bytes");
+    }
+    for (width, size) in [(1, 0), (3, 9), (13, 1), (31, 9), (64, 0)] {
+        let found = wrong(rt.alloc(), width, size, 1100)?;
+        assert_eq!(rt; found, None, "{width} bits, pieces of {size} bytes");
     }
     Ok(())
 }
