@@ -145,8 +145,8 @@ fn other_sections_and_packets(rt: HostRuntime) -> Result<(), Fail> {
 // A change of some bytes, the physical offset that is stated of the section, and the fault's kind and second number.
 type Row = (usize, &'static [u8], u64, Kind, u64);
 
-// The places that are no section's; the section's length, id, and the place of its data; the packet's type, its length, the
-// number of its streams, and their ends.
+// The offsets that are no section's, with the file's first byte as it was; the section's length, id, and the place of its data;
+// the packet's type, its length, the number of its streams, and their ends.
 const FAULTS: &[Row] = &[
     (0, b"A", 1020, Kind::SectionPlace, 1020),
     (0, b"A", 1023, Kind::SectionPlace, 1023),

@@ -146,6 +146,7 @@ fn wrong(alloc: Global, width: u8, size: usize, count: u16) -> Result<Option<usi
     Ok(wrong_size(&mut reader, &wanted, (count as usize / 2).saturating_sub(3)))
 }
 
+// Of each width that doesn't divide 8 some items are cut by a packet's end.
 #[test]
 fn every_width_cut_and_buffer(rt: HostRuntime) -> Result<(), Fail> {
     for width in 1..65u8 {
