@@ -12,7 +12,7 @@ use std::alloc::AllocError;
 use std::io::Write;
 
 /// Writes a text as the next cell of a row.
-#[inline]
+#[inline(always)]
 pub fn write_text<W: Write + Drop>(writer: &mut Writer<W>, text: &[u8]) -> Result<(), AllocError>
     ensures { (base : Option (List ℕ)) → (cells : List (List ℕ)) → length cells + 1 < 2 ^ 64 → InRow W.contents base cells writer.old → OnOk result (InRow W.contents base (cells ++ text.now ∷ []) writer.new) }
 {
@@ -22,16 +22,17 @@ pub fn write_text<W: Write + Drop>(writer: &mut Writer<W>, text: &[u8]) -> Resul
     }
 }
 
-/// Writes an item as the next cell of a row.
-#[inline]
-pub fn write_item<W: Write + Drop>(writer: &mut Writer<W>, item: Item<'_>) -> Result<(), AllocError>
+/// Writes an item as the next cell of a row. `digits` is room for the digits of an integer, whatever it held.
+#[inline(always)]
+pub fn write_item<W: Write + Drop>(
+    writer: &mut Writer<W>,
+    item: Item<'_>,
+    digits: &mut Buffer,
+) -> Result<(), AllocError>
     ensures { (base : Option (List ℕ)) → (cells : List (List ℕ)) → length cells + 1 < 2 ^ 64 → InRow W.contents base cells writer.old → OnOk result (InRow W.contents base (cells ++ item_text item.entry ∷ []) writer.new) }
 {
     match item {
-        Item::Whole(number) => {
-            let mut buffer = Buffer::new();
-            write_text(writer, buffer.format(number).as_bytes())
-        }
+        Item::Whole(number) => write_text(writer, digits.format(number).as_bytes()),
         Item::Word32(word) => write_text(writer, digits32(word).as_slice()),
         Item::Word64(word) => write_text(writer, digits64(word).as_slice()),
         Item::Text(bytes) => write_text(writer, bytes),
@@ -39,7 +40,7 @@ pub fn write_item<W: Write + Drop>(writer: &mut Writer<W>, item: Item<'_>) -> Re
 }
 
 /// Ends a row.
-#[inline]
+#[inline(always)]
 pub fn end_row<W: Write + Drop>(writer: &mut Writer<W>) -> Result<(), AllocError>
     ensures { (base : Option (List ℕ)) → (cells : List (List ℕ)) → InRow W.contents base cells writer.old → OnOk result (AtRow W.contents base (csv_row cells) writer.new) }
 {

@@ -8,6 +8,7 @@ ghost use Rattle.e57_rows.specs.Writing.{AtRow, InRow};
 use crate::cell::{end_row, write_item};
 use csv::Writer;
 use e57_records::FieldBlock;
+use itoa::Buffer;
 use std::alloc::AllocError;
 use std::io::Write;
 
@@ -44,24 +45,26 @@ fn write_rows<W: Write + Drop>(
     requires have { AllByRecursion (HasRecords i n) blocks.now }
     ensures { (base : Option (List ℕ)) → AtRow W.contents base [] writer.old → OnOk result (AtRow W.contents base (held_rows blocks.now i n) writer.new) }
 {
+    let mut digits = Buffer::new();
     for k in 0..n {
-        write_row(writer, blocks, i + k as u64)?;
+        write_row(writer, blocks, i + k as u64, &mut digits)?;
     }
     Ok(())
 }
 
-/// Writes the row of record `i`, which the blocks hold.
-#[inline]
+/// Writes the row of record `i`, which the blocks hold, with room for the digits of an integer.
+#[inline(always)]
 fn write_row<W: Write + Drop>(
     writer: &mut Writer<W>,
     blocks: &[FieldBlock],
     i: u64,
+    digits: &mut Buffer,
 ) -> Result<(), AllocError>
     requires have { AllByRecursion (HasRecords i 1) blocks.now }
     ensures { (base : Option (List ℕ)) → (text : List ℕ) → AtRow W.contents base text writer.old → OnOk result (AtRow W.contents base (text ++ held_row blocks.now i) writer.new) }
 {
     for j in 0..blocks.len() {
-        write_item(writer, blocks[j].item(i))?;
+        write_item(writer, blocks[j].item(i), digits)?;
     }
     end_row(writer)
 }
