@@ -154,7 +154,7 @@ fn a_failed_put_of_a_blob_is_an_output_fault(rt: HostRuntime) -> Result<(), Fail
     let bytes = long_bytes(alloc)?;
     for call in 0..3usize {
         let ended = run_long(alloc, long_file(alloc, &bytes)?, Some(call as u64))?;
-        let front = bytes.get(..call.wrapping_mul(65_280)).unwrap_or_default();
+        let front = bytes.get(..call.wrapping_mul(65_536)).unwrap_or_default();
         assert!(rt;
             ended.is(Status::OutFault, front, b"output fault\n"),
             "{call}"
