@@ -4,7 +4,11 @@
 #[cfg(test)]
 mod cases;
 #[cfg(test)]
+mod cuts;
+#[cfg(test)]
 mod fields;
+#[cfg(test)]
+mod lengths;
 #[cfg(test)]
 mod made;
 #[cfg(test)]

@@ -1,24 +1,13 @@
 //! Integers of every width, from streams that are cut into packets in every way, read into buffers of several sizes.
 
-use crate::made::{add_packet, opened_section};
+use crate::cuts::{cut, mixed};
+use crate::made::opened_section;
 use crate::reader::{Reader, Shape};
 use std::alloc::{AllocError, Global};
 use std::test::Fail;
 
 // What a buffer holds before a read.
 const UNTOUCHED: i64 = 0x5eee_dddd_cccc_bbbb;
-
-// An empty packet.
-const EMPTY: &[u8] = b"\x02\0\x03\0";
-
-// Bytes with no pattern of a few bytes.
-fn mixed(alloc: Global, count: usize) -> Result<Vec<u8>, AllocError> {
-    let mut bytes = Vec::new(alloc);
-    for i in 0..count {
-        bytes.push((i % 251 * 167 % 256) as u8 ^ (i / 251 % 256) as u8)?;
-    }
-    Ok(bytes)
-}
 
 // Whether bit t of a stream is 1, bit 0 of a byte being the least significant.
 fn bit(stream: &[u8], t: usize) -> bool {
@@ -51,34 +40,6 @@ fn item(stream: &[u8], low: i64, width: u8, first: usize) -> i64 {
         }
     }
     low.wrapping_add_unsigned(number)
-}
-
-// The packets of a stream that is cut after every `size` bytes. Where that is 0, it is cut into pieces of 1 to 9 bytes in turn,
-// and behind each of them stand a packet with no byte of the stream and an empty packet.
-fn cut(alloc: Global, stream: &[u8], size: usize) -> Result<Vec<u8>, AllocError> {
-    let mut packets = b"".to_vec(alloc)?;
-    if size == 0 {
-        add_uneven(&mut packets, stream)?;
-    } else {
-        for piece in stream.chunks(size) {
-            add_packet(&mut packets, false, &[piece])?;
-        }
-    }
-    Ok(packets)
-}
-
-fn add_uneven(packets: &mut Vec<u8>, stream: &[u8]) -> Result<(), AllocError> {
-    let mut rest = stream;
-    for k in 0..stream.len() {
-        let (piece, more) = rest.split_at((k % 9 + 1).min(rest.len()));
-        if !piece.is_empty() {
-            add_packet(packets, false, &[piece])?;
-            add_packet(packets, false, &[b""])?;
-            packets.extend_from_slice(EMPTY)?;
-        }
-        rest = more;
-    }
-    Ok(())
 }
 
 // Whether these integers stand at the front of a buffer, and the places behind them are as they were.
