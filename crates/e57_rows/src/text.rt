@@ -34,7 +34,9 @@ pub fn rows_of(
     }
 }
 
-/// Writes the rows of the `n` records from record `i` on, which the blocks hold.
+/// Writes the rows of the `n` records from record `i` on, which the blocks hold. It isn't built into its callers, so that its
+/// loop has the registers.
+#[inline(never)]
 fn write_rows<W: Write + Drop>(
     writer: &mut Writer<W>,
     blocks: &[FieldBlock],
