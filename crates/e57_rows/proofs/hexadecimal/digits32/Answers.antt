@@ -4,4 +4,6 @@ use Rattle.e57_rows.proofs.hexadecimal.digits32.Goals as goal
 
 pub returns : goal.returns
 unfolding hex
-returns c = rw (c.digit.ensures, c.digit-2.ensures, c.digit-3.ensures, c.digit-4.ensures, c.digit-5.ensures, c.digit-6.ensures, c.digit-7.ensures, c.digit-8.ensures) refl
+returns c =
+    rw (c.pair-a.ensures.high, c.pair-a.ensures.low, c.pair-c.ensures.high, c.pair-c.ensures.low)
+    (rw (c.pair-e.ensures.high, c.pair-e.ensures.low, c.pair-g.ensures.high, c.pair-g.ensures.low) refl)

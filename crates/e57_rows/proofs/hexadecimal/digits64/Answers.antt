@@ -5,5 +5,5 @@ use Rattle.e57_rows.proofs.hexadecimal.digits64.Goals as goal
 pub returns : goal.returns
 unfolding hex
 returns c =
-    rw (c.digit.ensures, c.digit-2.ensures, c.digit-3.ensures, c.digit-4.ensures, c.digit-5.ensures, c.digit-6.ensures, c.digit-7.ensures, c.digit-8.ensures)
-    (rw (c.digit-9.ensures, c.digit-10.ensures, c.digit-11.ensures, c.digit-12.ensures, c.digit-13.ensures, c.digit-14.ensures, c.digit-15.ensures, c.digit-16.ensures) refl)
+    rw (c.pair-a.ensures.high, c.pair-a.ensures.low, c.pair-c.ensures.high, c.pair-c.ensures.low, c.pair-e.ensures.high, c.pair-e.ensures.low, c.pair-g.ensures.high, c.pair-g.ensures.low)
+    (rw (c.pair-i.ensures.high, c.pair-i.ensures.low, c.pair-k.ensures.high, c.pair-k.ensures.low, c.pair-m.ensures.high, c.pair-m.ensures.low, c.pair-o.ensures.high, c.pair-o.ensures.low) refl)
