@@ -2,14 +2,14 @@
 use Rattle.std.specs.Prelude.{◌≡◌, ℕ, ◌+◌, ◌-◌, ◌<◌, ◌≤◌, ◌⊎◌, false, List, Option, Some, None, IfSome, Err}
 use Rattle.std.proofs.Common.{refl, sym, arith, ⊎_elim}
 use Rattle.std.proofs.lemmas.Bool.{cases_lt, lt-ltb, le-ltb}
-use Rattle.e57_base.specs.Count.{rose_before}
+use Rattle.e57_base.proofs.CountLaws.{rose_before}
 use Rattle.e57_base.specs.Source.{SourceView}
-use Rattle.e57_base.specs.Told.{told_map, told_both, told_here}
+use Rattle.e57_base.proofs.Told.{told_map, told_both, told_here}
 use Rattle.e57_base.specs.declared.fault.ReadFault.{ReadFault}
 use Rattle.e57_base.specs.declared.fault.ReadFault.TheVariants.{Refused, Source}
 use Rattle.e57_layout.specs.declared.field.Fixed.{Fixed}
 use Rattle.e57_layout.specs.declared.section.Section.{Section}
-use Rattle.e57_sections.specs.PathItem.{chunk_at}
+use Rattle.e57_cloud.specs.PathItem.{chunk_at}
 use Rattle.e57_ahead.specs.declared.reached.Reached.{Reached}
 use Rattle.e57_ahead.specs.declared.reached.Covered.{Covered}
 use Rattle.e57_ahead.specs.Counting.{IsWidth, IsWithin, StandsIn, OnWay, items, has_ended, answered}

@@ -7,33 +7,25 @@ use Rattle.std.proofs.lemmas.List.{length-append}
 use Rattle.e57_base.specs.declared.fault.Fault.{Fault}
 use Rattle.e57_layout.specs.declared.field.Fixed.{Fixed}
 use Rattle.e57_layout.specs.declared.section.Section.{Section}
-use Rattle.e57_sections.specs.Walk.{Packet, walk_from}
-use Rattle.e57_sections.specs.Chunks.{data_packets, stream_of, cut, by_chunk, float_items}
-use Rattle.e57_sections.specs.PathItem.{stretch_of, stretch}
-use Rattle.e57_sections.specs.Laws.Chunks.{data-append, cut-restart}
-use Rattle.e57_sections.specs.Laws.Pieces.{cut-on, by_chunk-is, by_chunk-none, cut-none}
-use Rattle.e57_sections.specs.Laws.Fronts.{IsFront, front-walk, stream_of-append}
+use Rattle.e57_cloud.specs.Walk.{Packet, walk_from, IsFront}
+use Rattle.e57_cloud.specs.Chunks.{data_packets, stream_of, cut, by_chunk, float_items}
+use Rattle.e57_cloud.specs.PathItem.{stretch_of, stretch}
+use Rattle.e57_cloud.proofs.Laws.Chunks.{data-append, cut-restart}
+use Rattle.e57_cloud.proofs.Laws.Pieces.{cut-on, by_chunk-is, by_chunk-none, cut-none}
+use Rattle.e57_cloud.proofs.Laws.Fronts.{front-walk, stream_of-append, length-onto_some, length-onto}
 use Rattle.e57_ahead.specs.Counting.{IsWidth}
-
-onto-length : (p : Packet) (pieces : List (List Packet)) → 0 < length pieces → length (onto_first p pieces) ≡ length pieces
-onto-length p [] some = absurd (omega arith)
-onto-length p (piece ∷ pieces) some = refl
-
-onto-some : (p : Packet) (pieces : List (List Packet)) → 0 < length (onto_first p pieces)
-onto-some p [] = omega arith
-onto-some p (piece ∷ pieces) = omega arith
 
 cut-some : (ps : List Packet) → 0 < length (cut ps)
 cut-some [] = rw cut-none (omega arith)
 cut-some (p ∷ ps) =
     ⊎_elim
     (λ (restart : p.restart ≡ true). rw (cut-restart p ps restart) (omega arith))
-    (λ (same : p.restart ≡ false). rw (cut-on p ps same) (onto-some p (cut ps)))
+    (λ (same : p.restart ≡ false). rw (cut-on p ps same) (length-onto_some p (cut ps)))
     (cases_Bool p.restart)
 
 by_chunk-some : (ps : List Packet) → 0 < length (by_chunk ps)
 by_chunk-some [] = rw by_chunk-none (omega arith)
-by_chunk-some (p ∷ ps) = rw (by_chunk-is p ps) (onto-some p (cut ps))
+by_chunk-some (p ∷ ps) = rw (by_chunk-is p ps) (length-onto_some p (cut ps))
 
 -- the pieces begin with these packets and some more
 pub record BeginsWith (ps : List Packet) (pieces : List (List Packet)) : Type 0 where
@@ -53,13 +45,13 @@ same-begins ps pieces all same begins = record { more = begins.more; later = beg
 
 -- without restart in one of them, the first one apart
 cut-rest : (p : Packet) (ps : List Packet) → length (onto_first p (cut ps)) ≡ 1 → length (cut ps) ≡ 1
-cut-rest p ps one = sym (onto-length p (cut ps) (cut-some ps)) ∙ one
+cut-rest p ps one = sym (length-onto p (cut ps) (cut-some ps)) ∙ one
 
 cut-begins : (ps qs : List Packet) → length (cut ps) ≡ 1 → BeginsWith ps (cut (ps ++ qs))
 cut-begins [] qs one = begins-none (cut qs) (cut-some qs)
 cut-begins (p ∷ ps) qs one =
     ⊎_elim
-    (λ (restart : p.restart ≡ true). absurd (let many = onto-some p (cut ps) in let count : suc (length (onto_first p (cut ps))) ≡ 1 = ap (λ (all : List (List Packet)). length all) (sym (cut-restart p ps restart)) ∙ one in omega arith))
+    (λ (restart : p.restart ≡ true). absurd (let many = length-onto_some p (cut ps) in let count : suc (length (onto_first p (cut ps))) ≡ 1 = ap (λ (all : List (List Packet)). length all) (sym (cut-restart p ps restart)) ∙ one in omega arith))
     (λ (same : p.restart ≡ false).
     let rest = cut-rest p ps (ap (λ (all : List (List Packet)). length all) (sym (cut-on p ps same)) ∙ one) in
     same-begins (p ∷ ps) (onto_first p (cut (ps ++ qs))) (cut (p ∷ ps ++ qs)) (cut-on p (ps ++ qs) same) (begins-onto p ps (cut (ps ++ qs)) (cut-begins ps qs rest)))

@@ -1,14 +1,14 @@
 -- A search that begins where the count stands, or anew.
-use Rattle.std.specs.Prelude.{◌≡◌, ℕ, ◌<◌, ◌≤◌, List, Option, Some, None, IfSome, Result, Ok, Err, MatchResult}
+use Rattle.std.specs.Prelude.{◌≡◌, ℕ, ◌<◌, ◌≤◌, List, Option, Some, IfSome, Result, Ok, Err, MatchResult}
 use Rattle.std.proofs.Common.{subst, arith, ⊎_elim}
 use Rattle.std.proofs.lemmas.Bool.{cases_lt, lt-ltb, le-ltb}
 use Rattle.e57_base.specs.Source.{SourceView}
-use Rattle.e57_base.specs.Told.{told_map}
+use Rattle.e57_base.proofs.Told.{told_map, told_all}
 use Rattle.e57_base.specs.declared.fault.ReadFault.{ReadFault}
 use Rattle.e57_base.specs.declared.fault.ReadFault.TheVariants.{Refused, Source}
 use Rattle.e57_layout.specs.declared.field.Fixed.{Fixed}
 use Rattle.e57_layout.specs.declared.section.Section.{Section}
-use Rattle.e57_sections.specs.PathItem.{chunk_at}
+use Rattle.e57_cloud.specs.PathItem.{chunk_at}
 use Rattle.e57_ahead.specs.declared.reached.Reached.{Reached}
 use Rattle.e57_ahead.specs.declared.reached.Covered.{Covered}
 use Rattle.e57_ahead.specs.Counting.{Search, begun, from, IsWithin, StandsIn, OnWay}
@@ -44,14 +44,10 @@ from-stands file s fixed r i none stands =
 given : (P Q : List ℕ → Type 0) (R : List ℕ → Type 0) (held : Option (List ℕ)) → ((file : List ℕ) → P file → Q file) → IfSome held (λ file. Q file → R file) → IfSome held (λ file. P file → R file)
 given P Q R held f known = told_map (λ file. Q file → R file) (λ file. P file → R file) held (λ file g p. g (f file p)) known
 
-each-file : (P : List ℕ → Type 0) (held : Option (List ℕ)) → ((file : List ℕ) → P file) → IfSome held P
-each-file P None all = tt
-each-file P (Some file) all = all file
-
 asks-given : (P Q : List ℕ → Type 0) (s : Section) (fixed : Fixed) (i low high : ℕ) (old new : SourceView) → ((file : List ℕ) → P file → Q file) → AsksOf (λ file p. Q file → OnWay file s fixed i p) low high old new → AsksOf (λ file p. P file → OnWay file s fixed i p) low high old new
 asks-given P Q s fixed i low high old new f asks =
     asks-allow (λ file p. Q file → OnWay file s fixed i p) (λ file p. P file → OnWay file s fixed i p) low high old new
-    (each-file (λ file. (p : ℕ) → (Q file → OnWay file s fixed i p) → P file → OnWay file s fixed i p) old.held (λ file p way stands. way (f file stands))) asks
+    (told_all (λ file. (p : ℕ) → (Q file → OnWay file s fixed i p) → P file → OnWay file s fixed i p) old.held (λ file p way stands. way (f file stands))) asks
 
 pub finds-from : (old new : SourceView) (s : Section) (fixed : Fixed) (r next : Reached) (i low : ℕ) (covered : Covered) → s.index ≡ 0 → Finds old (λ file. StandsIn file s fixed (from s r i)) s fixed i low covered next new
     → Finds old (λ file. StandsIn file s fixed r) s fixed i low covered next new

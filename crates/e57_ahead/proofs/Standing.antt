@@ -5,29 +5,30 @@ use Rattle.std.proofs.Common.{refl, sym, subst, ap, ◌∙◌, arith, inl, inr, 
 use Rattle.std.proofs.lemmas.Bool.{cases_lt, lt-ltb, le-ltb, ltb-true, le-leb, ne_eqb}
 use Rattle.std.proofs.lemmas.List.{append-nil, length-append}
 use Rattle.std.proofs.Math.Bool.{or-true, and-true}
-use Rattle.e57_sections.specs.Section.{or_zero}
+use Rattle.e57_cloud.specs.Section.{or_zero}
 use Rattle.e57_base.specs.declared.fault.Fault.{Fault}
 use Rattle.e57_base.specs.declared.kind.Kind.TheVariants.{RestartUnindexed}
 use Rattle.e57_base.specs.Fault.{fault}
 use Rattle.e57_page.specs.File.{logical}
-use Rattle.e57_layout.specs.Packets.{length_at, restart_at}
+use Rattle.e57_layout.specs.Packets.{restart_at}
 use Rattle.e57_layout.specs.Values.{ItemKind}
 use Rattle.e57_layout.specs.declared.field.Fixed.{Fixed}
 use Rattle.e57_layout.specs.declared.section.Section.{Section}
-use Rattle.e57_sections.specs.Walk.{Packet, packet_at, packet_fault}
-use Rattle.e57_sections.specs.Chunks.{data_packets, stream_of, by_chunk, float_items}
-use Rattle.e57_sections.specs.PathItem.{ChunkAt, Stretch, stretch, covered, cover_from, chunk_at}
-use Rattle.e57_sections.specs.Met.{OnWalk, OnCover, lacks_item, lacks_record, goes_on, InSpan, needed_at}
-use Rattle.e57_sections.specs.Laws.Chunks.{data-append}
-use Rattle.e57_sections.specs.Laws.Pieces.{data-yes, data-other, data-none}
-use Rattle.e57_sections.specs.Laws.Reached.{cover-last}
-use Rattle.e57_sections.specs.Laws.Covers.{next-after, cover_from-step}
-use Rattle.e57_sections.specs.Laws.Fronts.{IsFront, front-none, front-more, front-walked, none-one, first-one, same-one, stretch-end, stretch-fault, stretch-next, stream_of-append}
+use Rattle.e57_cloud.specs.Walk.{Packet, packet_at, packet_fault, IsFront}
+use Rattle.e57_cloud.specs.Chunks.{data_packets, stream_of, by_chunk, float_items}
+use Rattle.e57_cloud.specs.PathItem.{ChunkAt, Stretch, stretch, covered, cover_from, chunk_at}
+use Rattle.e57_cloud.specs.Met.{OnWalk, OnCover, lacks_item, lacks_record, goes_on, InSpan, needed_at}
+use Rattle.e57_cloud.proofs.Laws.Chunks.{data-append}
+use Rattle.e57_cloud.proofs.Laws.Pieces.{data-yes, data-other, data-none}
+use Rattle.e57_cloud.proofs.Laws.Reached.{cover-last}
+use Rattle.e57_cloud.proofs.Laws.Covers.{next-after, cover_from-step}
+use Rattle.e57_cloud.proofs.Laws.Fronts.{front-none, front-more, front-walked, none-one, first-one, same-one, stretch-end, stretch-fault, stretch-next, stream_of-append, packet-length}
 use Rattle.e57_ahead.specs.declared.reached.Reached.{Reached}
 use Rattle.e57_ahead.specs.declared.reached.Covered.{Covered}
 use Rattle.e57_ahead.specs.Counting.{begun, anew, IsWidth, items, has_ended, answered, OnWay, StandsIn}
 use Rattle.e57_ahead.specs.Finding.{IsOf, IsBeyond, HasRecords}
 use Rattle.e57_ahead.proofs.Prefix.{stretch-begins, items-more}
+use Rattle.e57_cloud.proofs.Laws.Streams.{stream-one}
 
 -- ---- a new count
 
@@ -122,14 +123,6 @@ empty-chunk file s fixed r i stands there sound restart has none low =
 empty-list : (ps : List Packet) → (0 < length ps → ⊥) → ps ≡ []
 empty-list [] none = refl
 empty-list (p ∷ ps) none = absurd (none (omega arith))
-
-stream-one : (f : ℕ) (p : Packet) → stream_of f (p ∷ []) ≡ get_or p.streams f []
-unfolding stream_of
-stream-one f p = append-nil (get_or p.streams f [])
-
-packet-length : (b : List ℕ) (q : ℕ) → (packet_at b q).length ≡ length_at b q
-unfolding packet_at
-packet-length b q = refl
 
 data-more : (ps : List Packet) (p : Packet) → p.is_data ≡ true → data_packets (ps ++ p ∷ []) ≡ data_packets ps ++ p ∷ []
 data-more ps p is = data-append ps (p ∷ []) ∙ ap (λ (l : List Packet). data_packets ps ++ l) (data-yes p [] is ∙ ap (λ (l : List Packet). p ∷ l) data-none)

@@ -3,7 +3,7 @@ use Rattle.std.specs.Prelude.{◌≡◌, ℕ, zero, suc, ◌+◌, ◌<◌, ◌�
 use Rattle.std.proofs.Common.{refl, sym, subst, ap, ◌∙◌, arith}
 use Rattle.std.proofs.lemmas.List.Sums.{sum-map, sum_by-cons}
 use Rattle.e57_base.specs.Source.{SourceView}
-use Rattle.e57_base.specs.Told.{told_map, told_both}
+use Rattle.e57_base.proofs.Told.{told_map, told_both}
 use Rattle.e57_base.specs.declared.fault.Fault.{Fault}
 use Rattle.e57_base.specs.declared.fault.ReadFault.{ReadFault}
 use Rattle.e57_base.specs.declared.fault.ReadFault.TheVariants.{Refused, Source}
@@ -13,26 +13,21 @@ use Rattle.e57_page.specs.File.{logical}
 use Rattle.e57_layout.specs.Packets.{total, data_size, restart_at}
 use Rattle.e57_layout.specs.declared.field.Fixed.{Fixed}
 use Rattle.e57_layout.specs.declared.section.Section.{Section}
-use Rattle.e57_sections.specs.Walk.{Packet, packet_at, packet_fault}
-use Rattle.e57_sections.specs.PathItem.{chunk_at}
-use Rattle.e57_sections.specs.Met.{InSpan, needed_at}
+use Rattle.e57_cloud.specs.Walk.{Packet, packet_at, packet_fault}
+use Rattle.e57_cloud.specs.PathItem.{chunk_at}
+use Rattle.e57_cloud.specs.Met.{InSpan, needed_at}
 use Rattle.e57_section.specs.declared.load.Loaded.{Loaded}
 use Rattle.e57_section.specs.declared.load.Loaded.TheVariants.{Stream, Index, Empty}
 use Rattle.e57_section.specs.Steps.{is_packet_kind}
 use Rattle.e57_section.specs.Loading.{loaded_length, needed_by, HoldsStreams, IsLoaded, loaded_as, LoadsPacket, LosesPacket}
-use Rattle.e57_section.specs.AskingLaws.{needed_loaded, loaded_packet}
+use Rattle.e57_section.proofs.AskingLaws.{needed_loaded, loaded_packet}
 use Rattle.e57_ahead.specs.declared.reached.Reached.{Reached}
 use Rattle.e57_ahead.specs.Counting.{IsWithin, StandsIn, items, anew}
 use Rattle.e57_ahead.specs.Finding.{AsksOf, OfPacket, Steps, IsBeyond, IsStepCause, StepsNot, is_found_kind}
 use Rattle.e57_ahead.proofs.Standing.{faulty-chunk, empty-chunk, stands-more, stands-passed, stands-anew}
 use Rattle.e57_ahead.proofs.Pages.{packet-asks, span-wider}
-
--- ---- pages
-
-needed-most : (answer : Loaded) → 4 ≤ loaded_length answer → (4 ≤ needed_by answer) × (needed_by answer ≤ loaded_length answer)
-needed-most (Stream n restart) some = (some, omega arith)
-needed-most (Index n) some = (omega arith, some)
-needed-most (Empty n) some = (omega arith, some)
+use Rattle.std.proofs.lemmas.Bool.{and_parts}
+use Rattle.e57_section.proofs.Lengths.{needed-most}
 
 same-span : (q n m p : ℕ) → n ≡ m → InSpan q n p → InSpan q m p
 same-span q n m p same within = subst (λ (k : ℕ). InSpan q k p) same within
@@ -97,12 +92,12 @@ passed-packet old new s fixed r answer kept now held other within there loads =
 
 -- ---- a data packet
 
-total-cons : (x : List ℕ) (xs : List (List ℕ)) → total (x ∷ xs) ≡ length x + total xs
+pub total-cons : (x : List ℕ) (xs : List (List ℕ)) → total (x ∷ xs) ≡ length x + total xs
 total-cons x xs =
     let size = λ (stream : List ℕ). length stream in
     sum-map size (x ∷ xs) ∙ sum_by-cons size x xs ∙ ap (λ (n : ℕ). length x + n) (sym (sum-map size xs))
 
-get-total : (streams : List (List ℕ)) (f : ℕ) → length (get_or streams f []) ≤ total streams
+pub get-total : (streams : List (List ℕ)) (f : ℕ) → length (get_or streams f []) ≤ total streams
 get-total [] f = omega arith
 get-total (x ∷ xs) zero =
     let first : get_or (x ∷ xs) 0 [] ≡ x = refl in
@@ -143,11 +138,6 @@ is-data file q n restart (Some streams) f stream are is =
       stream = ap (λ (l : List ℕ). length l) are ∙ sym (ap (λ (p : Packet). length (get_or p.streams f [])) same);
     }
 
-both-true : (a b : Bool) → (a && b) ≡ true → (a ≡ true) × (b ≡ true)
-both-true true true is = (refl, refl)
-both-true true false is = cc
-both-true false b is = cc
-
 -- a data packet of the chunk
 pub more-packet : (old new : SourceView) (s : Section) (fixed : Fixed) (r : Reached) (n : ℕ) (restart : Bool) (kept now : List ℕ) (held : Option (List (List ℕ))) (stream : List ℕ) → (restart && r.has_data) ≡ false → IfSome held (λ streams. stream ≡ get_or streams fixed.field [])
     → IsWithin s r → r.taken + 4 ≤ s.end → LoadsPacket old kept s r.taken (Stream n restart) held new now → Steps old s fixed r (record { first = r.first; place = r.place; taken = r.taken + n; bytes = r.bytes + length stream; has_data = true }) new
@@ -175,7 +165,7 @@ anew-packet old new s fixed r n restart kept now held stream on are have within 
     let counted = within.counted in
     let inside = loads.within in
     let some = loads.some in
-    let flags = both-true restart r.has_data on in
+    let flags = and_parts restart r.has_data on in
     let short = stream-short s n restart held fixed.field stream loads.streams are in
     record {
       source = loads-asks old new kept now s r (r.taken + n) (Stream n restart) held (omega arith) loads;
@@ -192,7 +182,7 @@ anew-packet old new s fixed r n restart kept now held stream on are have within 
 pub empty-packet : (old new : SourceView) (s : Section) (fixed : Fixed) (r : Reached) (n : ℕ) (restart : Bool) (kept now : List ℕ) (held : Option (List (List ℕ))) (stream : List ℕ) → (restart && r.has_data) ≡ true → IfSome held (λ streams. stream ≡ get_or streams fixed.field [])
     → items fixed r ≡ 0 → r.taken + 4 ≤ s.end → LoadsPacket old kept s r.taken (Stream n restart) held new now → StepsNot old s fixed r (Refused (fault RestartUnindexed s.node r.taken)) new
 empty-packet old new s fixed r n restart kept now held stream on are none there loads =
-    let flags = both-true restart r.has_data on in
+    let flags = and_parts restart r.has_data on in
     record {
       source = loads-asks old new kept now s r s.end (Stream n restart) held loads.within loads;
       cause = (

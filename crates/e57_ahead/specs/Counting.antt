@@ -3,11 +3,10 @@ use Rattle.std.specs.Prelude.{◌≡◌, ℕ, ◌+◌, ◌-◌, ◌/◌, ◌<◌
 use Rattle.e57_layout.specs.Values.{ItemKind}
 use Rattle.e57_layout.specs.declared.section.Section.{Section}
 use Rattle.e57_layout.specs.declared.field.Fixed.{Fixed}
-use Rattle.e57_sections.specs.Walk.{Packet}
-use Rattle.e57_sections.specs.Chunks.{data_packets, stream_of, by_chunk}
-use Rattle.e57_sections.specs.PathItem.{chunk_at, cover_from}
-use Rattle.e57_sections.specs.Met.{OnCover}
-use Rattle.e57_sections.specs.Laws.Fronts.{IsFront}
+use Rattle.e57_cloud.specs.Walk.{Packet, IsFront}
+use Rattle.e57_cloud.specs.Chunks.{data_packets, stream_of, by_chunk}
+use Rattle.e57_cloud.specs.PathItem.{chunk_at, cover_from}
+use Rattle.e57_cloud.specs.Met.{OnCover}
 use Rattle.e57_ahead.specs.declared.reached.Reached.{Reached}
 use Rattle.e57_ahead.specs.declared.reached.Covered.{Covered}
 

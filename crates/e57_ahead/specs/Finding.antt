@@ -11,8 +11,8 @@ use Rattle.e57_base.specs.declared.kind.Kind.TheVariants.{RestartUnindexed}
 use Rattle.e57_page.specs.Pages.{AsksFor}
 use Rattle.e57_layout.specs.declared.section.Section.{Section}
 use Rattle.e57_layout.specs.declared.field.Fixed.{Fixed}
-use Rattle.e57_sections.specs.PathItem.{ChunkAt, chunk_at}
-use Rattle.e57_sections.specs.Met.{InSpan, needed_at}
+use Rattle.e57_cloud.specs.PathItem.{ChunkAt, chunk_at}
+use Rattle.e57_cloud.specs.Met.{InSpan, needed_at}
 use Rattle.e57_section.specs.Steps.{is_packet_kind}
 use Rattle.e57_ahead.specs.declared.reached.Reached.{Reached}
 use Rattle.e57_ahead.specs.declared.reached.Covered.{Covered}

@@ -1,7 +1,6 @@
 pub mod Count
 pub mod Kind
 pub mod Fault
-pub mod Told
 pub mod Source
 pub mod Opening
 pub mod Target

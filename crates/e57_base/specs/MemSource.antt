@@ -1,12 +1,7 @@
 -- A source of files in memory.
-use Rattle.std.specs.Prelude.{◌≡◌, ℕ, Bool, true, false, ◌&&◌, if◌then◌else◌, List, [], ◌∷◌, ◌++◌, length, nat_lt, Option, Some, None, is_some, is_none, IsNone, IfSome, refl}
+use Rattle.std.specs.Prelude.{◌≡◌, ℕ, Bool, true, ◌&&◌, if◌then◌else◌, List, [], ◌∷◌, ◌++◌, length, nat_lt, Option, Some, None, is_none, IfSome, refl}
 use Rattle.std.specs.Option.{option_map}
-use Rattle.std.specs.FinMap.{get, insert, empty, code, get-empty, get-insert}
-use Rattle.std.specs.Ordering.{nat_cmp}
-use Rattle.std.specs.Cmp.Lexicographic.{slice_cmp, nat_list_cmp_total}
-use Rattle.std.specs.Str.{bytes_eq}
-use Rattle.std.proofs.Common.{cond, ap, ◌∙◌}
-use Rattle.std.proofs.lemmas.Map.Text.{is_eq-slice_cmp}
+use Rattle.std.specs.FinMap.{get, insert, empty, code}
 use Rattle.std.specs.Coded.{Coded, code_by, coded×, coded_list, coded_option, coded_bool, coded_ℕ}
 use Rattle.e57_base.specs.Calls.{CallList, no_calls, is_failing, called, raised_if}
 use Rattle.e57_base.specs.Count.{raised}
@@ -93,15 +88,6 @@ rest_left source file before = if is_failing source.calls then before else rest_
 -- what is held is as long as the open file
 pub source_holds_size : (source : SourceState) → HoldsSize (source_view source)
 source_holds_size source = elim source.held as (λ held. IfSome held (λ file. option_map length held ≡ Some (length file))) [ None ↦ tt | Some file ↦ refl ]
-
--- a new source has no file
-pub absent_at_first : (room : ℕ) (name : List ℕ) → IsNone (get (initial_source room).files name)
-absent_at_first room name = ap is_some (get-empty (slice_cmp nat_cmp) name)
-
--- a file that isn't there is not there either beside one of another name
-pub absent_beside : (source : SourceState) (name bytes other : List ℕ) → IsNone (get source.files other) → bytes_eq other name ≡ false → IsNone (get (with_file name bytes source).files other)
-absent_beside source name bytes other absent differs =
-    ap is_some (get-insert nat_list_cmp_total source.files name bytes other ∙ ap (λ b. cond b (Some bytes) (get source.files other)) (is_eq-slice_cmp other name ∙ differs)) ∙ absent
 
 -- a state is stored as the pairs of its fields
 abbrev pub source_code : Coded SourceState

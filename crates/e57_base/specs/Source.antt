@@ -4,8 +4,6 @@ use Rattle.std.specs.Result.{result_ok}
 use Rattle.std.specs.Ordering.{nat_cmp}
 use Rattle.std.specs.Cmp.Lexicographic.{slice_cmp}
 use Rattle.std.specs.FinMap.{FinMap, get}
-use Rattle.std.proofs.Common.{refl, sym, ap, ◌∙◌, append_assoc}
-use Rattle.std.proofs.lemmas.List.{append-nil}
 use Rattle.e57_base.specs.Count.{raised, Rose}
 use Rattle.e57_base.specs.declared.fault.Failed.{Failed}
 
@@ -103,28 +101,3 @@ pub record ReadsRest {T : Type 0} (old : SourceView) (rest : List ℕ) (result :
   pub read : OnOk result (IfSome old.held (λ file. rest ≡ rest_of file))
   pub faults : old.faults ≤ new.faults
   pub cause : OnErr result (Rose old.faults new.faults)
-
-pub same_file : (source : SourceView) → SameFile source source
-same_file source = record { stock = refl; size = refl; held = refl; opened = refl; missed = refl }
-
-pub same_file_on : {a b c : SourceView} → SameFile a b → SameFile b c → SameFile a c
-same_file_on f g =
-    record {
-      stock = g.stock ∙ f.stock;
-      size = g.size ∙ f.size;
-      held = g.held ∙ f.held;
-      opened = g.opened ∙ f.opened;
-      missed = g.missed ∙ f.missed;
-    }
-
--- nothing was asked for
-pub asks_none : (before : Option (List ℕ)) → Asks before [] before
-asks_none None = tt
-asks_none (Some before) = sym (append-nil before)
-
--- first these pages, and then those
-pub asks_on : (a b c : Option (List ℕ)) (first next : List ℕ) → Asks a first b → Asks b next c → Asks a (first ++ next) c
-asks_on a b None first next f g = tt
-asks_on a None (Some now) first next f g = absurd g
-asks_on None (Some mid) (Some now) first next f g = absurd f
-asks_on (Some before) (Some mid) (Some now) first next f g = g ∙ ap (λ (x : List ℕ). x ++ next) f ∙ append_assoc before first next

@@ -4,7 +4,7 @@ use Rattle.std.proofs.Math.Nat.{le_refl}
 use Rattle.std.proofs.lemmas.Slice.{between_to_end}
 use Rattle.byteorder.specs.Endian.{little_from, little_number}
 use Rattle.e57_bits.specs.Bits.{number}
-use Rattle.e57_bits.specs.BitLaws.{number-zero, number-split, number-byte, number-drop}
+use Rattle.e57_bits.proofs.BitLaws.{number-zero, number-split, number-byte, number-drop}
 
 -- the n bytes from place i are 8 * n bits
 pub little_from-bits : (xs : List ℕ) → ((k : ℕ) → get_or xs k 0 < 256) → (i n : ℕ) → little_from i n xs ≡ number xs (8 * i) (8 * n)

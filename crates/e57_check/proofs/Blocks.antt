@@ -4,18 +4,17 @@ use Rattle.std.specs.Option.{option_or}
 use Rattle.std.proofs.Common.{refl, sym, ap, ◌∙◌, arith, ⊎_elim}
 use Rattle.std.proofs.lemmas.List.{take_at}
 use Rattle.e57_base.specs.Source.{SourceView}
-use Rattle.e57_base.specs.Told.{told_map, told_both, told_here}
+use Rattle.e57_base.proofs.Told.{told_map, told_both, told_here}
 use Rattle.e57_base.specs.declared.fault.Fault.{Fault}
 use Rattle.e57_layout.specs.Values.{Value}
 use Rattle.e57_layout.specs.declared.field.Fixed.{Fixed}
 use Rattle.e57_layout.specs.declared.section.Section.{Section}
-use Rattle.e57_sections.specs.Chunks.{chunks}
-use Rattle.e57_sections.specs.Cloud.{Leaf, fields_fault}
-use Rattle.e57_sections.specs.Laws.Items.{IsBodySound}
-use Rattle.e57_sections.specs.Laws.Refusals.{first_refusal}
+use Rattle.e57_cloud.specs.Chunks.{chunks}
+use Rattle.e57_cloud.specs.Cloud.{Leaf, fields_fault, IsBodySound}
+use Rattle.e57_cloud.specs.PathItem.{first_refusal}
 use Rattle.e57_column.specs.Column.{column_item}
 use Rattle.e57_check.specs.Asking.{AsksWhere}
-use Rattle.e57_check.specs.AskingLaws.{asks_where_on, asks_where_map}
+use Rattle.e57_check.proofs.AskingLaws.{asks_where_on, asks_where_map}
 use Rattle.e57_check.specs.Judging.{AllAt, AllStand, columns_fault, RowIs, ReadsRow, Judges, OpensColumns, JudgesBlock}
 use Rattle.e57_column.specs.declared.state.State.{State}
 use Rattle.e57_check.proofs.Rows.{row-step, columns-none}

@@ -1,13 +1,12 @@
 -- One cloud: its section, its index, its packets, its chunks, its fields.
-use Rattle.std.specs.Prelude.{◌≡◌, ℕ, zero, suc, ◌+◌, ◌-◌, ◌*◌, ◌/◌, ◌<◌, ◌≤◌, ◌≢◌, ◌==◌, ◌⊎◌, Bool, true, false, if◌then◌else◌, List, [], ◌∷◌, length, Option, Some, None, IfSome, Result, Ok, Err, MatchResult}
+use Rattle.std.specs.Prelude.{◌≡◌, ℕ, suc, ◌+◌, ◌-◌, ◌*◌, ◌/◌, ◌<◌, ◌≤◌, ◌⊎◌, List, [], ◌∷◌, length, Option, Some, None, IfSome, Result, Ok, Err, MatchResult}
 use Rattle.std.specs.Option.{option_or}
-use Rattle.std.specs.List.{AllByRecursion}
 use Rattle.std.proofs.Common.{refl, sym, subst, ap, ◌∙◌, arith, inl, inr, ⊎_elim}
 use Rattle.std.proofs.lemmas.Bool.{ne_eqb, cases_lt, lt-ltb, le-ltb}
-use Rattle.e57_base.specs.Count.{rose_before}
+use Rattle.e57_base.proofs.CountLaws.{rose_before}
 use Rattle.e57_base.specs.Fault.{read_as_open}
 use Rattle.e57_base.specs.Source.{SourceView}
-use Rattle.e57_base.specs.Told.{told_map, told_both, told_here}
+use Rattle.e57_base.proofs.Told.{told_map, told_both, told_here, told_all}
 use Rattle.e57_base.specs.declared.fault.Fault.{Fault}
 use Rattle.e57_base.specs.declared.fault.ReadFault.{ReadFault}
 use Rattle.e57_base.specs.declared.fault.ReadFault.TheVariants as of_read
@@ -21,18 +20,17 @@ use Rattle.e57_layout.specs.declared.field.FieldKind.TheVariants.{Int, Scaled, B
 use Rattle.e57_layout.specs.declared.field.Fixed.{Fixed}
 use Rattle.e57_layout.specs.declared.section.Section.{Section}
 use Rattle.e57_nodes.specs.Items.{leaves_of}
-use Rattle.e57_sections.specs.Section.{section_fault, section_at}
-use Rattle.e57_sections.specs.Walk.{walk_from}
-use Rattle.e57_sections.specs.Chunks.{chunks, chunks_fault}
-use Rattle.e57_sections.specs.Cloud.{Leaf, Cloud, float_from, fixed_of, section_of, fields_fault, body_fault, cloud_fault}
-use Rattle.e57_section.specs.Opening.{LiesIn, header_place, header_within, OpensSection, OpensNoSection}
+use Rattle.e57_cloud.specs.Section.{section_fault, section_at}
+use Rattle.e57_cloud.specs.Walk.{walk_from}
+use Rattle.e57_cloud.specs.Chunks.{chunks, chunks_fault}
+use Rattle.e57_cloud.specs.Cloud.{Leaf, Cloud, float_from, fixed_of, section_of, fields_fault, body_fault, cloud_fault}
+use Rattle.e57_section.specs.Opening.{header_within, OpensSection, OpensNoSection}
 use Rattle.e57_tree.specs.declared.items.Cloud.{Cloud as StatedCloud}
 use Rattle.e57_check.specs.Asking.{AsksPages, AsksWhere}
-use Rattle.e57_check.specs.AskingLaws.{asks_where_none, asks_where_on, asks_anywhere, unkept_pages, span_below}
+use Rattle.e57_check.proofs.AskingLaws.{asks_where_none, asks_where_on, asks_anywhere, unkept_pages, span_below}
 use Rattle.e57_check.specs.Starts.{IsWidth, IsField}
 use Rattle.e57_check.specs.Clouds.{Refuses, index_fault_of, AreOf, OpensStarts, OpensNoStarts, IsIndexed, JudgesRecords, RefusesRecords, JudgesBody, RefusesBody, cloud_of, JudgesCloud, RefusesCloud}
 use Rattle.e57_check.specs.declared.starts.Starts.{Starts}
-use Rattle.e57_check.proofs.Passed.{told-always}
 
 -- ---- one thing after another
 
@@ -60,7 +58,7 @@ body-index file s fixed leaves f is = ap (λ (o : Option Fault). option_or o (op
 pub body-unopened : (count : ℕ) (old new : SourceView) (s : Section) (fixed : Option Fixed) (leaves : List Leaf) (found : OpenFault) → OpensNoStarts count old s found new → RefusesBody count old s fixed leaves found new
 body-unopened count old new s fixed leaves found lost =
     refuses-later (index_fault_of s) (λ file. body_fault file s fixed leaves) count old old new found (asks_where_none (λ file. Unit {0}) count old)
-    (told-always (λ file. (f : Fault) → index_fault_of s file ≡ Some f → body_fault file s fixed leaves ≡ Some f) old.held (λ file f is. body-index file s fixed leaves f is)) lost
+    (told_all (λ file. (f : Fault) → index_fault_of s file ≡ Some f → body_fault file s fixed leaves ≡ Some f) old.held (λ file f is. body-index file s fixed leaves f is)) lost
 
 indexed : (old : SourceView) (s : Section) (fixed : Option Fixed) (starts : Starts) → IfSome old.held (λ file. index_fault_of s file ≡ None) → IfSome old.held (λ file. AreOf file s fixed starts) → IfSome old.held (λ file. IsIndexed file s fixed starts)
 indexed old s fixed starts sound are = told_both (λ file. index_fault_of s file ≡ None) (λ file. AreOf file s fixed starts) (λ file. IsIndexed file s fixed starts) old.held (λ file none of. record { sound = none; are = of }) sound are
@@ -127,7 +125,7 @@ cloud-empty file c none = rw none refl
 pub cloud-nothing : (count : ℕ) (view : SourceView) (cloud : StatedCloud) (leaves : List Leaf) → cloud.count ≡ 0 → JudgesCloud count view cloud leaves view
 cloud-nothing count view cloud leaves none = record {
   source = asks_where_none (λ file. Unit {0}) count view;
-  sound = told-always (λ file. cloud_fault file (cloud_of cloud leaves) ≡ None) view.held (λ file. cloud-empty file (cloud_of cloud leaves) none);
+  sound = told_all (λ file. cloud_fault file (cloud_of cloud leaves) ≡ None) view.held (λ file. cloud-empty file (cloud_of cloud leaves) none);
 }
 
 cloud-section : (file : List ℕ) (c : Cloud) (f : Fault) → 0 < c.count → section_fault file c.node c.offset ≡ Some f → cloud_fault file c ≡ Some f

@@ -4,10 +4,10 @@ use Rattle.std.specs.List.{AllByRecursion}
 use Rattle.std.specs.Option.{option_or}
 use Rattle.std.proofs.Common.{refl, sym, subst, ap, ◌∙◌, arith, ⊎_elim, add-zero}
 use Rattle.std.proofs.lemmas.List.{length-take-le, length-replicate}
-use Rattle.e57_base.specs.Count.{rose_before}
+use Rattle.e57_base.proofs.CountLaws.{rose_before}
 use Rattle.e57_base.specs.Fault.{read_as_open}
 use Rattle.e57_base.specs.Source.{SourceView}
-use Rattle.e57_base.specs.Told.{told_map, told_both, told_here}
+use Rattle.e57_base.proofs.Told.{told_map, told_both, told_here}
 use Rattle.e57_base.specs.declared.fault.Fault.{Fault}
 use Rattle.e57_base.specs.declared.fault.ReadFault.{ReadFault}
 use Rattle.e57_base.specs.declared.fault.ReadFault.TheVariants as of_read
@@ -17,10 +17,9 @@ use Rattle.e57_layout.specs.Values.{ItemKind, Value, item_kind}
 use Rattle.e57_layout.specs.declared.field.Field.{Field}
 use Rattle.e57_layout.specs.declared.field.Fixed.{Fixed}
 use Rattle.e57_layout.specs.declared.section.Section.{Section}
-use Rattle.e57_sections.specs.Cloud.{Leaf}
-use Rattle.e57_sections.specs.PathItem.{item_of}
+use Rattle.e57_cloud.specs.Cloud.{Leaf}
+use Rattle.e57_cloud.specs.PathItem.{item_of, first_refusal}
 use Rattle.e57_section.specs.Opening.{LiesIn}
-use Rattle.e57_sections.specs.Laws.Refusals.{first_refusal}
 use Rattle.e57_column.specs.Texts.{ReadsTexts}
 use Rattle.e57_column.specs.declared.texts.TextsRead.{TextsRead}
 use Rattle.e57_column.specs.declared.state.State.{State}
@@ -30,10 +29,12 @@ use Rattle.e57_column.specs.declared.state.Place.TheVariants as place
 use Rattle.e57_column.specs.Column.{kind_of, placed, placed_at, column_item, leaf_of, StandsIn}
 use Rattle.e57_column.specs.Reading.{IsOpened, Seeks, SeeksNot, OnRecords, AsksRecords, IsCause, ReadsRecords, StopsRecords, SameField, KeepsStanding}
 use Rattle.e57_check.specs.Asking.{AsksWhere}
-use Rattle.e57_check.specs.AskingLaws.{asks_where_none, asks_where_on, asks_where_map}
+use Rattle.e57_check.proofs.AskingLaws.{asks_where_none, asks_where_on, asks_where_map}
 use Rattle.e57_check.specs.Judging.{ReadsBlock, IsBlockCause, ReadsNoBlock, OpensColumn, IsColumnCause, OpensNoColumn}
 use Rattle.e57_check.proofs.Paged.{item-below}
-use Rattle.e57_check.proofs.Rows.{refusal-append, same-refusal}
+use Rattle.e57_check.proofs.Rows.{same-refusal}
+use Rattle.e57_column.proofs.Joining.{field-on}
+use Rattle.e57_cloud.proofs.Laws.Refusals.{refusal-append}
 
 -- ---- pages
 
@@ -112,9 +113,6 @@ block-stopped count old new before after a n want done {read} found given lies i
 same-field : (c : State) → SameField c c
 same-field c = record { stream = refl; items = refl }
 
-pub same-on : (a b c : State) → SameField a b → SameField b c → SameField a c
-same-on a b c f g = record { stream = g.stream ∙ f.stream; items = g.items ∙ f.items }
-
 pub block-none : (count : ℕ) (view : SourceView) (c : State) (a : ℕ) → placed c ≡ Some a → ReadsBlock count view c a 0 view c
 unfolding first_refusal
 block-none count view c a is_at = record {
@@ -152,7 +150,7 @@ block-on count old mid new a b c i m k first next =
     record {
       source = asks_where_on (λ file. StandsIn file a) count old mid new first.source (later-asks count old mid new a b held first.stands next.source);
       at_record = next.at_record ∙ ap Some place;
-      same = same-on a b c first.same next.same;
+      same = field-on a b c first.same next.same;
       stands = later-told old mid a b (λ file. StandsIn file c) (λ file. StandsIn file c) held first.stands (λ file stand. stand) next.stands;
       sound = told_both (λ file. StandsIn file a → first_refusal (column_item file a) i m ≡ None) (λ file. StandsIn file a → first_refusal (column_item file a) (i + m) k ≡ None) (λ file. StandsIn file a → first_refusal (column_item file a) i (m + k) ≡ None) old.held
           (λ file none rest stand. refusal-append (column_item file a) i m k ∙ ap (λ (o : Option Fault). option_or o (first_refusal (column_item file a) (i + m) k)) (none stand) ∙ rest stand) first.sound

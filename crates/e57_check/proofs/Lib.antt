@@ -1,3 +1,4 @@
+pub mod AskingLaws
 pub mod Starting
 pub mod Passed
 pub mod Stepping

@@ -1,34 +1,32 @@
 -- The columns of a section's fields, opened one after another.
-use Rattle.std.specs.Prelude.{◌≡◌, ℕ, zero, suc, ◌+◌, ◌-◌, ◌<◌, ◌≤◌, ◌==◌, true, false, List, [], ◌∷◌, ◌++◌, length, drop, get_or, pos, is_some, Option, Some, None, IfSome, Result, Ok, Err, MatchResult}
+use Rattle.std.specs.Prelude.{◌≡◌, ℕ, zero, suc, ◌+◌, ◌-◌, ◌<◌, ◌≤◌, true, false, List, [], ◌∷◌, ◌++◌, length, drop, get_or, pos, is_some, Option, Some, None, IfSome, Result, Ok, Err, MatchResult}
 use Rattle.std.specs.List.{AllByRecursion}
 use Rattle.std.specs.Option.{option_or}
-use Rattle.std.proofs.Common.{refl, sym, subst, ap, ◌∙◌, arith, ⊎_elim}
-use Rattle.std.proofs.lemmas.Bool.{cases_Bool}
-use Rattle.e57_base.specs.Count.{rose_before}
+use Rattle.std.proofs.Common.{refl, sym, subst, ap, ◌∙◌, arith}
+use Rattle.e57_base.proofs.CountLaws.{rose_before}
 use Rattle.e57_base.specs.Source.{SourceView}
-use Rattle.e57_base.specs.Told.{told_map, told_both, told_here}
+use Rattle.e57_base.proofs.Told.{told_map, told_both, told_here}
 use Rattle.e57_base.specs.declared.fault.Fault.{Fault}
 use Rattle.e57_base.specs.declared.fault.OpenFault.{OpenFault}
 use Rattle.e57_base.specs.declared.fault.OpenFault.TheVariants.{Refused, Source, Memory}
-use Rattle.e57_layout.specs.Values.{ItemKind, integers, words, strings, Value, whole, here, IsValidField, item_kind}
-use Rattle.e57_layout.specs.Widths.{width}
-use Rattle.e57_layout.specs.Items.{item_at}
+use Rattle.e57_layout.specs.Values.{Value, whole, IsValidField, item_kind}
 use Rattle.e57_layout.specs.declared.field.Field.{Field}
 use Rattle.e57_layout.specs.declared.field.Fixed.{Fixed}
 use Rattle.e57_layout.specs.declared.section.Section.{Section}
 use Rattle.e57_nodes.specs.Items.{leaves_of}
-use Rattle.e57_sections.specs.Chunks.{Chunk, chunks, stream_of}
-use Rattle.e57_sections.specs.Cloud.{Leaf, items_fault, chunk_item, field_fault, fields_fault}
-use Rattle.e57_sections.specs.PathItem.{constant_of, item_of}
-use Rattle.e57_sections.specs.Laws.Items.{IsBodySound}
-use Rattle.e57_sections.specs.Laws.Refusals.{first_refusal, field-refusal}
+use Rattle.e57_cloud.specs.Chunks.{Chunk, chunks, stream_of}
+use Rattle.e57_cloud.specs.Cloud.{Leaf, items_fault, chunk_item, field_fault, fields_fault, IsBodySound}
+use Rattle.e57_cloud.specs.PathItem.{constant_of, item_of, first_refusal}
+use Rattle.e57_cloud.proofs.Laws.Refusals.{field-refusal}
 use Rattle.e57_check.specs.Asking.{AsksWhere}
-use Rattle.e57_check.specs.AskingLaws.{asks_where_none, asks_where_on}
+use Rattle.e57_check.proofs.AskingLaws.{asks_where_none, asks_where_on}
 use Rattle.e57_column.specs.Column.{leaf_of, column_item, StandsIn}
 use Rattle.e57_check.specs.Judging.{IsAt, AllAt, AllStand, columns_fault, IsNoRefusal, OpensColumns, GivesUp, OpensColumn, OpensNoColumn}
 use Rattle.e57_column.specs.declared.state.State.{State}
 use Rattle.e57_check.specs.declared.fields.Judging.{Judging}
-use Rattle.e57_check.proofs.Rows.{columns-append, columns-one, columns-none, all-append, or-assoc}
+use Rattle.e57_check.proofs.Rows.{columns-append, columns-one, columns-none, all-append}
+use Rattle.e57_cloud.proofs.Laws.Items.{constant-found}
+use Rattle.e57_base.proofs.Options.{option_or_assoc}
 
 -- ---- fields by number
 
@@ -60,23 +58,10 @@ value_or : Option Value → Value
 value_or None = whole (pos 0)
 value_or (Some v) = v
 
-never : (v : Value) → ◌≡◌ {A = Option Value} None (Some v) → ⊥
-never v is = cc
-
-constant-here : (kind : ItemKind) (v : Value) (stream : List ℕ) (k : ℕ) → constant_of kind ≡ Some v → item_at kind stream k ≡ here v
-unfolding item_at value_or
-constant-here (integers low high) v stream k is =
-    ⊎_elim
-    (λ (fixed : (width low high == 0) ≡ true). rw fixed (ap (λ (o : Option Value). here (value_or o)) (rw fixed at is)))
-    (λ (free : (width low high == 0) ≡ false). absurd (never v (rw free at is)))
-    (cases_Bool (width low high == 0))
-constant-here (words w) v stream k is = cc
-constant-here strings v stream k is = cc
-
 constant-items : (f : ℕ) (leaf : Leaf) (chunk : Chunk) (v : Value) (first k n : ℕ) → constant_of leaf.kind ≡ Some v → items_fault (chunk_item f leaf.kind chunk) leaf.node first k n ≡ None
 unfolding items_fault
 constant-items f leaf chunk v first k zero is = refl
-constant-items f leaf chunk v first k (suc n) is = rw (constant-here leaf.kind v (stream_of f chunk.packets) k is, constant-items f leaf chunk v first (k + 1) n is) refl
+constant-items f leaf chunk v first k (suc n) is = rw (constant-found leaf.kind v (stream_of f chunk.packets) k is, constant-items f leaf chunk v first (k + 1) n is) refl
 
 constant-field : (f : ℕ) (leaf : Leaf) (parts : List Chunk) (v : Value) → constant_of leaf.kind ≡ Some v → field_fault f leaf parts ≡ None
 unfolding field_fault
@@ -163,7 +148,7 @@ opens-more count old mid new s fixed leaves f leaf cs c next opens column = reco
       judged sound
       ∙ ap (λ (rest : List Leaf). option_or (columns_fault file cs 0 s.count) (fields_fault f rest (chunks file s fixed))) next
       ∙ ap (option_or (columns_fault file cs 0 s.count)) (fields-next f leaf (drop (f + 1) leaves) (chunks file s fixed) ∙ ap (λ (o : Option Fault). option_or o rest) own)
-      ∙ sym (or-assoc (columns_fault file cs 0 s.count) (columns_fault file (c ∷ []) 0 s.count) rest)
+      ∙ sym (option_or_assoc (columns_fault file cs 0 s.count) (columns_fault file (c ∷ []) 0 s.count) rest)
       ∙ ap (λ (o : Option Fault). option_or o rest) (sym (columns-append file cs (c ∷ []) 0 s.count))) opens.judged;
 }
 

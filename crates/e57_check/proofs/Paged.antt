@@ -14,13 +14,13 @@ use Rattle.e57_layout.specs.declared.packet.Entry.{Entry}
 use Rattle.e57_layout.specs.declared.field.Fixed.{Fixed}
 use Rattle.e57_base.specs.Fault.{fault}
 use Rattle.e57_base.specs.declared.kind.Kind.TheVariants.{PacketLength, PacketType, IndexShape}
-use Rattle.e57_sections.specs.Walk.{Packet, is_data_at, packet_head_fault}
-use Rattle.e57_sections.specs.Index.{known_place, entries_of, is_misshapen_index, index_shape_fault}
-use Rattle.e57_sections.specs.Cloud.{Leaf}
-use Rattle.e57_sections.specs.PathItem.{ChunkAt, pick, path}
-use Rattle.e57_sections.specs.Laws.Spans.{or-none}
-use Rattle.e57_sections.specs.Met.{InSpan, InIndexStart, InEntries, InTarget, OnPicked, OnDescent, OnPath, needed_at, OnWalk, OnCover, OnChunk, OnWalks, OnItem}
-use Rattle.e57_check.specs.AskingLaws.{span_below}
+use Rattle.e57_cloud.specs.Walk.{Packet, is_data_at, packet_head_fault}
+use Rattle.e57_cloud.specs.Index.{known_place, entries_of, is_misshapen_index, index_shape_fault}
+use Rattle.e57_cloud.specs.Cloud.{Leaf}
+use Rattle.e57_cloud.specs.PathItem.{ChunkAt, pick, path}
+use Rattle.e57_cloud.specs.Met.{InSpan, InIndexStart, InEntries, InTarget, OnPicked, OnDescent, OnPath, needed_at, OnWalk, OnCover, OnChunk, OnWalks, OnItem}
+use Rattle.e57_check.proofs.AskingLaws.{span_below}
+use Rattle.e57_base.proofs.Options.{option_or_parts}
 
 -- a page of bytes that end in the file
 in-file : (q n count p : ℕ) → q + n ≤ count * 1020 → InSpan q n p → p < count
@@ -63,7 +63,7 @@ shape-room b s level q none =
 entries-below : (file : List ℕ) (s : Section) (level offset count p : ℕ) → s.end ≤ count * 1020 → InEntries file s level offset p → p < count
 unfolding index_shape_fault
 entries-below file s level offset count p within is =
-    let both = or-none _ (if is_misshapen_index (logical file) s level (known_place offset) then Some (fault IndexShape s.node offset) else None) is.0 in
+    let both = option_or_parts _ (if is_misshapen_index (logical file) s level (known_place offset) then Some (fault IndexShape s.node offset) else None) is.0 in
     let room = shape-room (logical file) s level (known_place offset) (no-when (is_misshapen_index (logical file) s level (known_place offset)) (fault IndexShape s.node offset) both.1) in
     in-file (known_place offset + 16) (16 * entry_count_at (logical file) (known_place offset)) count p (omega (arith, room, within)) is.1
 
@@ -89,8 +89,8 @@ path-below file s i count p within is =
 head-room : (file : List ℕ) (s : Section) (q : ℕ) → packet_head_fault file s q ≡ None → q + length_at (logical file) q ≤ s.end
 unfolding packet_head_fault
 head-room file s q none =
-    let a = or-none (span_fault file q 4) _ none in
-    let b = or-none (if nat_lt 2 (sort_at (logical file) q) then Some (fault PacketType s.node q) else None) _ a.1 in
+    let a = option_or_parts (span_fault file q 4) _ none in
+    let b = option_or_parts (if nat_lt 2 (sort_at (logical file) q) then Some (fault PacketType s.node q) else None) _ a.1 in
     let c = or_parts (not (length_at (logical file) q % 4 == 0)) (nat_lt s.end (q + length_at (logical file) q)) (no-when _ (fault PacketLength s.node q) b.1) in
     ltb-false s.end (q + length_at (logical file) q) c.1
 

@@ -3,20 +3,20 @@ use Rattle.std.specs.Prelude.{◌≡◌, ℕ, ◌+◌, ◌<◌, ◌≤◌, true,
 use Rattle.std.specs.Option.{option_or}
 use Rattle.std.proofs.Common.{refl, sym, subst, ap, ◌∙◌, arith, ⊎_elim}
 use Rattle.std.proofs.lemmas.Bool.{cases_Bool, cond-true, cond-false}
-use Rattle.e57_base.specs.Count.{rose_before}
+use Rattle.e57_base.proofs.CountLaws.{rose_before}
 use Rattle.e57_base.specs.Source.{SourceView}
-use Rattle.e57_base.specs.Told.{told_map, told_both, told_here}
+use Rattle.e57_base.proofs.Told.{told_map, told_both, told_here, told_all}
 use Rattle.e57_base.specs.declared.fault.Fault.{Fault}
 use Rattle.e57_base.specs.declared.fault.ReadFault.{ReadFault}
 use Rattle.e57_base.specs.declared.fault.ReadFault.TheVariants.{Refused, Source}
 use Rattle.e57_page.specs.File.{logical}
 use Rattle.e57_layout.specs.Packets.{length_at}
 use Rattle.e57_layout.specs.declared.section.Section.{Section}
-use Rattle.e57_sections.specs.Walk.{Packet, Walk, packet_at, packet_fault, walk_from}
-use Rattle.e57_sections.specs.Chunks.{data_packets}
-use Rattle.e57_sections.specs.Laws.Pieces.{data-yes, data-other, data-none}
-use Rattle.e57_sections.specs.Laws.Fronts.{walk_from-end, walk_from-step, walk_from-fault}
-use Rattle.e57_check.specs.AskingLaws.{asks_pages_none, asks_pages_on}
+use Rattle.e57_cloud.specs.Walk.{Packet, Walk, packet_at, packet_fault, walk_from}
+use Rattle.e57_cloud.specs.Chunks.{data_packets}
+use Rattle.e57_cloud.proofs.Laws.Pieces.{data-yes, data-other, data-none}
+use Rattle.e57_cloud.proofs.Laws.Fronts.{walk_from-end, walk_from-step, walk_from-fault, packet-length}
+use Rattle.e57_check.proofs.AskingLaws.{asks_pages_none, asks_pages_on}
 use Rattle.e57_check.specs.Starts.{arrived, float_bytes, left_fault, rest_fault}
 use Rattle.e57_check.specs.Passing.{fault_from, IsWithin, Walks, IsAsFar, WalksToEnd, WalksNot, came_with, Steps, StepsNot}
 use Rattle.e57_check.specs.declared.starts.Starts.{Starts}
@@ -27,10 +27,6 @@ use Rattle.e57_check.proofs.Starting.{rest-none, rest-next}
 from-walk : (file : List ℕ) (s : Section) (starts : Starts) (q : ℕ) (came : Came) (w : Walk) → walk_from file s q ≡ w → fault_from file s starts q came ≡ option_or w.fault (rest_fault s starts came (data_packets w.packets))
 unfolding fault_from
 from-walk file s starts q came w is = ap (λ (x : Walk). option_or x.fault (rest_fault s starts came (data_packets x.packets))) is
-
-packet-length : (b : List ℕ) (q : ℕ) → (packet_at b q).length ≡ length_at b q
-unfolding packet_at
-packet-length b q = refl
 
 -- one packet more
 rest-with : (s : Section) (starts : Starts) (came : Came) (p : Packet) (ps : List Packet) → rest_fault s starts came (data_packets (p ∷ ps)) ≡ rest_fault s starts (came_with s starts came p) (data_packets ps)
@@ -67,17 +63,11 @@ from-end file s starts q came over =
     ∙ ap (rest_fault s starts came) data-none
     ∙ rest-none s starts came
 
--- ---- some packets
-
-pub told-always : (P : List ℕ → Type 0) (held : Option (List ℕ)) → ((file : List ℕ) → P file) → IfSome held P
-told-always P None each = tt
-told-always P (Some file) each = each file
-
 pub walks-none : (count : ℕ) (view : SourceView) (s : Section) (starts : Starts) (r : Passed) → IsWithin s r → Walks count view s starts r r view
 walks-none count view s starts r within = record {
   source = asks_pages_none count view;
   within = within;
-  left = told-always (λ file. fault_from file s starts r.taken r.came ≡ fault_from file s starts r.taken r.came) view.held (λ file. refl);
+  left = told_all (λ file. fault_from file s starts r.taken r.came ≡ fault_from file s starts r.taken r.came) view.held (λ file. refl);
 }
 
 pub walks-step : (count : ℕ) (old mid new : SourceView) (s : Section) (starts : Starts) (r here next : Passed) → here.taken + 4 ≤ s.end → Walks count old s starts r here mid → Steps count mid s starts here next new → Walks count old s starts r next new

@@ -2,10 +2,10 @@
 use Rattle.std.specs.Prelude.{◌≡◌, ℕ, ◌+◌, ◌-◌, ◌<◌, ◌≤◌, ◌⊎◌, List, length, Option, Some, None, IfSome}
 use Rattle.std.specs.Option.{option_or}
 use Rattle.std.proofs.Common.{refl, sym, subst, ap, ◌∙◌, arith}
-use Rattle.e57_base.specs.Count.{rose_before}
+use Rattle.e57_base.proofs.CountLaws.{rose_before}
 use Rattle.e57_base.specs.Fault.{read_as_open}
 use Rattle.e57_base.specs.Source.{SourceView}
-use Rattle.e57_base.specs.Told.{told_map, told_both, told_here}
+use Rattle.e57_base.proofs.Told.{told_map, told_both, told_here, told_all}
 use Rattle.e57_base.specs.declared.fault.Fault.{Fault}
 use Rattle.e57_base.specs.declared.fault.ReadFault.{ReadFault}
 use Rattle.e57_base.specs.declared.fault.ReadFault.TheVariants as of_read
@@ -13,14 +13,12 @@ use Rattle.e57_base.specs.declared.fault.OpenFault.{OpenFault}
 use Rattle.e57_base.specs.declared.fault.OpenFault.TheVariants.{Refused, Source, Memory}
 use Rattle.e57_layout.specs.declared.field.Fixed.{Fixed}
 use Rattle.e57_layout.specs.declared.section.Section.{Section}
-use Rattle.e57_sections.specs.Walk.{walk_from}
-use Rattle.e57_sections.specs.Chunks.{chunks, chunks_fault, data_packets, packets_by_chunk}
-use Rattle.e57_sections.specs.Cloud.{Leaf, fields_fault, body_fault}
-use Rattle.e57_sections.specs.Laws.Items.{IsBodySound}
-use Rattle.e57_sections.specs.Laws.Spans.{or-none}
+use Rattle.e57_cloud.specs.Walk.{walk_from}
+use Rattle.e57_cloud.specs.Chunks.{chunks, chunks_fault, data_packets, packets_by_chunk}
+use Rattle.e57_cloud.specs.Cloud.{Leaf, fields_fault, body_fault, IsBodySound}
 use Rattle.e57_column.specs.declared.state.State.{State}
 use Rattle.e57_check.specs.Asking.{AsksWhere}
-use Rattle.e57_check.specs.AskingLaws.{asks_where_none, asks_where_on, asks_anywhere}
+use Rattle.e57_check.proofs.AskingLaws.{asks_where_none, asks_where_on, asks_anywhere}
 use Rattle.e57_check.specs.Starts.{AreStarts, by_starts, none_came}
 use Rattle.e57_check.specs.Passing.{fault_from, IsWithin, Walks, WalksToEnd, IsWalkCause, WalksNot}
 use Rattle.e57_check.specs.Judging.{ReadsNoRow, IsGiveUp, OpensColumns, JudgesBlock, GivesUp}
@@ -29,8 +27,8 @@ use Rattle.e57_check.specs.declared.starts.Starts.{Starts}
 use Rattle.e57_check.specs.declared.starts.Starts.TheVariants.{Indexed, Counted}
 use Rattle.e57_check.specs.declared.starts.Passed.{Passed}
 use Rattle.e57_check.proofs.Starting.{starts-all}
-use Rattle.e57_check.proofs.Passed.{told-always}
 use Rattle.e57_check.proofs.Blocks.{FieldsSoFar, fields-begin, block-asks, fields-step, fields-ended}
+use Rattle.e57_base.proofs.Options.{option_or_parts}
 
 -- ---- packets and chunks, and then fields
 
@@ -63,7 +61,7 @@ body-fields : (file : List ℕ) (s : Section) (fixed : Option Fixed) (leaves : L
     → IsBodySound file s fixed × (body_fault file s fixed leaves ≡ fields_fault 0 leaves (chunks file s fixed))
 unfolding body_fault
 body-fields file s fixed leaves starts some starting indexed sound =
-    let both = or-none (walk_from file s s.data_place).fault (chunks_fault file s fixed) (sym (packets-are file s fixed starts starting indexed) ∙ sound) in (
+    let both = option_or_parts (walk_from file s s.data_place).fault (chunks_fault file s fixed) (sym (packets-are file s fixed starts starting indexed) ∙ sound) in (
       record { some = some; index = indexed.sound; packets = both.0; chunks_ok = both.1 },
       ap (λ (o : Option Fault). option_or o (option_or (walk_from file s s.data_place).fault (option_or (chunks_fault file s fixed) (fields_fault 0 leaves (chunks file s fixed))))) indexed.sound
           ∙ ap (λ (o : Option Fault). option_or o (option_or (chunks_fault file s fixed) (fields_fault 0 leaves (chunks file s fixed)))) both.0
@@ -84,7 +82,7 @@ pub so-begin : (count : ℕ) (old new : SourceView) (s : Section) (starts : Star
 so-begin count old new s starts fixed leaves r cs found is inside opens = rw is (record {
   source = opens.source;
   within = record { within = inside; counted = omega arith; starts = omega arith };
-  left = told-always (λ file. fault_from file s starts s.data_place none_came ≡ fault_from file s starts s.data_place none_came) old.held (λ file. refl);
+  left = told_all (λ file. fault_from file s starts s.data_place none_came ≡ fault_from file s starts s.data_place none_came) old.held (λ file. refl);
   fields = fields-begin count old new s fixed leaves cs found opens;
 })
 

@@ -1,21 +1,20 @@
 -- A row of columns, one column after another.
-use Rattle.std.specs.Prelude.{◌≡◌, ℕ, zero, suc, ◌+◌, ◌<◌, ◌≤◌, List, [], ◌∷◌, ◌++◌, length, take, drop, get_or, Option, Some, None, IfSome, Result, MatchResult}
+use Rattle.std.specs.Prelude.{◌≡◌, ℕ, suc, ◌+◌, ◌<◌, ◌≤◌, List, [], ◌∷◌, ◌++◌, length, take, drop, get_or, Option, Some, None, IfSome, Result, MatchResult}
 use Rattle.std.specs.List.{AllByRecursion}
 use Rattle.std.specs.Option.{option_or}
-use Rattle.std.proofs.Common.{set, refl, sym, subst, ap, ◌∙◌, arith, length-append, append_assoc, zero-add, add-zero}
+use Rattle.std.proofs.Common.{set, refl, sym, subst, ap, ◌∙◌, arith, length-append, append_assoc}
 use Rattle.std.proofs.lemmas.List.{append-nil, take_at, drop_at, get_or_at, set_at, take-append-drop}
-use Rattle.e57_base.specs.Count.{rose_before}
+use Rattle.e57_base.proofs.CountLaws.{rose_before}
 use Rattle.e57_base.specs.Source.{SourceView}
-use Rattle.e57_base.specs.Told.{told_map}
+use Rattle.e57_base.proofs.Told.{told_map}
 use Rattle.e57_base.specs.declared.fault.Fault.{Fault}
 use Rattle.e57_base.specs.declared.fault.OpenFault.{OpenFault}
 use Rattle.e57_base.specs.declared.fault.OpenFault.TheVariants.{Refused, Source, Memory}
 use Rattle.e57_layout.specs.Values.{Value}
 use Rattle.e57_layout.specs.declared.section.Section.{Section}
-use Rattle.e57_sections.specs.PathItem.{item_of}
-use Rattle.e57_sections.specs.Laws.Refusals.{refusal, first_refusal}
+use Rattle.e57_cloud.specs.PathItem.{item_of, first_refusal}
 use Rattle.e57_check.specs.Asking.{AsksWhere}
-use Rattle.e57_check.specs.AskingLaws.{asks_where_none, asks_where_on, asks_where_map}
+use Rattle.e57_check.proofs.AskingLaws.{asks_where_none, asks_where_on, asks_where_map}
 use Rattle.e57_column.specs.Column.{kind_of, column_item, StandsIn}
 use Rattle.e57_column.specs.Reading.{SameField}
 use Rattle.e57_check.specs.Judging.{IsAt, AllAt, AllStand, SameFields, columns_fault, ReadsBlock, ReadsNoBlock, FirstHas, RowIs, ReadsRow, IsGiveUp, ReadsNoRow, stopped_row}
@@ -23,20 +22,8 @@ use Rattle.e57_stream.specs.declared.bytestream.Bytestream.{Bytestream}
 use Rattle.e57_column.specs.declared.state.Items.{Items}
 use Rattle.e57_column.specs.declared.state.State.{State}
 use Rattle.e57_check.specs.declared.row.Row.{Row}
-
--- ---- records after records
-
-pub or-assoc : (a b c : Option Fault) → option_or (option_or a b) c ≡ option_or a (option_or b c)
-or-assoc None b c = refl
-or-assoc (Some x) b c = refl
-
-pub refusal-append : (look : ℕ → Result Value Fault) (i m n : ℕ) → first_refusal look i (m + n) ≡ option_or (first_refusal look i m) (first_refusal look (i + m) n)
-unfolding first_refusal
-refusal-append look i zero n = rw (zero-add, add-zero)
-refusal-append look i (suc m) n =
-    let size : suc m + n ≡ suc (m + n) = omega arith in
-    let place : i + suc m ≡ i + 1 + m = omega arith in
-    rw (size, place) (ap (option_or (refusal (look i))) (refusal-append look (i + 1) m n) ∙ sym (or-assoc (refusal (look i)) (first_refusal look (i + 1) m) (first_refusal look (i + 1 + m) n)))
+use Rattle.e57_base.proofs.Options.{option_or_parts, option_or_assoc}
+use Rattle.e57_cloud.proofs.Laws.Refusals.{refusal-append}
 
 -- ---- columns
 
@@ -53,7 +40,7 @@ unfolding columns_fault
 columns-append file [] ds a n = refl
 columns-append file (c ∷ cs) ds a n =
     ap (option_or (first_refusal (column_item file c) a n)) (columns-append file cs ds a n)
-    ∙ sym (or-assoc (first_refusal (column_item file c) a n) (columns_fault file cs a n) (columns_fault file ds a n))
+    ∙ sym (option_or_assoc (first_refusal (column_item file c) a n) (columns_fault file cs a n) (columns_fault file ds a n))
 
 pub columns-one : (file : List ℕ) (c : State) (a n : ℕ) → columns_fault file (c ∷ []) a n ≡ first_refusal (column_item file c) a n
 unfolding columns_fault
@@ -63,16 +50,12 @@ columns-one file c a n = nothing (first_refusal (column_item file c) a n)
     nothing None = refl
     nothing (Some x) = refl
 
-or-none : (a b : Option Fault) → option_or a b ≡ None → (a ≡ None) × (b ≡ None)
-or-none None b none = (refl, none)
-or-none (Some x) b none = cc
-
 -- columns that have no fault in the next n records
 columns-rest : (file : List ℕ) (cs : List State) (a n m : ℕ) → columns_fault file cs a n ≡ None → columns_fault file cs a (n + m) ≡ columns_fault file cs (a + n) m
 unfolding columns_fault
 columns-rest file [] a n m none = refl
 columns-rest file (c ∷ cs) a n m none =
-    let both = or-none (first_refusal (column_item file c) a n) (columns_fault file cs a n) none in
+    let both = option_or_parts (first_refusal (column_item file c) a n) (columns_fault file cs a n) none in
     let here : first_refusal (column_item file c) a (n + m) ≡ first_refusal (column_item file c) (a + n) m = refusal-append (column_item file c) a n m ∙ ap (λ (o : Option Fault). option_or o (first_refusal (column_item file c) (a + n) m)) both.0 in
     rw (here, columns-rest file cs a n m both.1) refl
 
@@ -108,7 +91,7 @@ pub row-step : (file : List ℕ) (cs cs' : List State) (a n m j : ℕ) (found be
 row-step file cs cs' a n m j found before is same =
     ap (λ (all : List State). option_or (columns_fault file all a (n + m)) before) (sym (take-append-drop j cs))
     ∙ ap (λ (o : Option Fault). option_or o before) (columns-append file (take j cs) (drop j cs) a (n + m))
-    ∙ or-assoc (columns_fault file (take j cs) a (n + m)) (columns_fault file (drop j cs) a (n + m)) before
+    ∙ option_or_assoc (columns_fault file (take j cs) a (n + m)) (columns_fault file (drop j cs) a (n + m)) before
     ∙ ap (option_or (columns_fault file (take j cs) a (n + m))) (columns-next file (drop j cs) a n m found before is.next)
     ∙ ap (λ (o : Option Fault). option_or o (option_or found before)) (columns-rest file (take j cs) a n m is.sound ∙ columns-same file (take j cs) (take j cs') (a + n) m same)
 

@@ -3,7 +3,7 @@ use Rattle.std.specs.Prelude.{◌≡◌, ℕ, zero, suc, ◌+◌, ◌==◌, ◌|
 use Rattle.std.specs.List.{onto_first}
 use Rattle.std.specs.Option.{option_or}
 use Rattle.std.proofs.Common.{refl, sym, ap, ◌∙◌, arith, ⊎_elim, length-append, append_assoc}
-use Rattle.std.proofs.lemmas.Bool.{cases_Bool, ne_eqb}
+use Rattle.std.proofs.lemmas.Bool.{cases_Bool, ne_eqb, or_from}
 use Rattle.std.proofs.lemmas.List.{append-nil, drop-drop}
 use Rattle.e57_base.specs.Fault.{fault}
 use Rattle.e57_base.specs.declared.fault.Fault.{Fault}
@@ -11,15 +11,17 @@ use Rattle.e57_base.specs.declared.kind.Kind.TheVariants.{RestartUnindexed}
 use Rattle.e57_layout.specs.declared.section.Section.{Section}
 use Rattle.e57_layout.specs.declared.packet.Entry.{Entry}
 use Rattle.e57_layout.specs.declared.field.Fixed.{Fixed}
-use Rattle.e57_sections.specs.Walk.{Packet}
-use Rattle.e57_sections.specs.Chunks.{cut, by_chunk, stream_of, starts_fault, restarts_fault, unindexed_fault, entry_left, float_items as items_of}
-use Rattle.e57_sections.specs.Laws.Chunks.{cut-restart}
-use Rattle.e57_sections.specs.Laws.Pieces.{cut-on, cut-none, by_chunk-is, by_chunk-none}
-use Rattle.e57_sections.specs.Laws.Fronts.{stream_of-append}
+use Rattle.e57_cloud.specs.Walk.{Packet}
+use Rattle.e57_cloud.specs.Chunks.{cut, by_chunk, stream_of, starts_fault, restarts_fault, unindexed_fault, entry_left, float_items as items_of}
+use Rattle.e57_cloud.proofs.Laws.Chunks.{cut-restart}
+use Rattle.e57_cloud.proofs.Laws.Pieces.{cut-on, cut-none, by_chunk-is, by_chunk-none}
+use Rattle.e57_cloud.proofs.Laws.Fronts.{stream_of-append}
 use Rattle.e57_check.specs.Starts.{by_starts, IsWidth, AreStarts, field_bytes, float_bytes, float_items, none_came, entry_start_fault, left_entry_fault, arrived, left_fault, rest_fault}
 use Rattle.e57_check.specs.declared.starts.Starts.{Starts}
 use Rattle.e57_check.specs.declared.starts.Starts.TheVariants.{Indexed, Counted}
 use Rattle.e57_check.specs.declared.starts.Came.{Came}
+use Rattle.e57_cloud.proofs.Laws.Streams.{stream-one}
+use Rattle.e57_base.proofs.Options.{option_or_assoc}
 
 -- ---- pieces
 
@@ -31,10 +33,6 @@ drop-onto p (piece ∷ pieces) = refl
 head_of : List (List Packet) → List Packet
 head_of [] = []
 head_of (piece ∷ pieces) = piece
-
-or-assoc : (a b c : Option Fault) → option_or (option_or a b) c ≡ option_or a (option_or b c)
-or-assoc None b c = refl
-or-assoc (Some x) b c = refl
 
 or-nothing : (a : Option Fault) → option_or a None ≡ a
 or-nothing None = refl
@@ -100,9 +98,6 @@ indexed-goes_on s es j first bytes q restart found is = rw is refl
 or-start : (a b : Bool) → a ≡ false → b ≡ true → (a || b) ≡ true
 or-start a b none is = rw (none, is) refl
 
-or-same : (a b : Bool) → a ≡ false → b ≡ false → (a || b) ≡ false
-or-same a b none is = rw (none, is) refl
-
 indexed-left : (s : Section) (es : List Entry) (j first bytes : ℕ) (found : Option Fault) → left_fault s (Indexed es) (came_as j first bytes found) ≡ option_or found (entry_left s (drop j es))
 unfolding came_as
 indexed-left s es j first bytes found = ap (option_or found) (ap (left_entry_fault s) (first-entry es j) ∙ left-entry s (drop j es))
@@ -122,14 +117,14 @@ indexed-later s es j first bytes found (p ∷ ps) some =
     rest-next s (Indexed es) (came_as j first bytes found) p ps
     ∙ ap (λ (came : Came). rest_fault s (Indexed es) came ps) (indexed-begins s es j first bytes p.place p.restart found (or-start (j == 0) p.restart some restart))
     ∙ indexed-later s es (j + 1) (first + 0) 0 (option_or found here) ps (later-start j)
-    ∙ or-assoc found here later
+    ∙ option_or_assoc found here later
     ∙ ap (λ (rest : List Entry). option_or found (option_or here (starts_fault s (j + 1) rest (drop 1 (cut ps))))) (sym (drop-drop 1 j es))
     ∙ ap (λ (o : Option Fault). option_or found (option_or o (starts_fault s (j + 1) (drop 1 (drop j es)) (drop 1 (cut ps))))) named
     ∙ ap (option_or found) (sym (starts-onto s j (drop j es) p (cut ps)))
     ∙ ap (λ (pieces : List (List Packet)). option_or found (starts_fault s j (drop j es) (drop 1 pieces))) (sym (cut-restart p ps restart)))
     (λ (same : p.restart ≡ false).
     rest-next s (Indexed es) (came_as j first bytes found) p ps
-    ∙ ap (λ (came : Came). rest_fault s (Indexed es) came ps) (indexed-goes_on s es j first bytes p.place p.restart found (or-same (j == 0) p.restart some same))
+    ∙ ap (λ (came : Came). rest_fault s (Indexed es) came ps) (indexed-goes_on s es j first bytes p.place p.restart found (or_from (j == 0) p.restart some same))
     ∙ indexed-later s es j first (bytes + 0) found ps some
     ∙ ap (λ (pieces : List (List Packet)). option_or found (starts_fault s j (drop j es) pieces)) (sym (drop-onto p (cut ps)))
     ∙ ap (λ (pieces : List (List Packet)). option_or found (starts_fault s j (drop j es) (drop 1 pieces))) (sym (cut-on p ps same)))
@@ -157,10 +152,6 @@ items-over : (fixed : Option Fixed) (packets : List Packet) → items_of fixed p
 unfolding bytes_over
 items-over None packets = refl
 items-over (Some fixed) packets = refl
-
-stream-one : (f : ℕ) (p : Packet) → stream_of f (p ∷ []) ≡ get_or p.streams f []
-unfolding stream_of
-stream-one f p = append-nil (get_or p.streams f [])
 
 bytes-one : (fixed : Option Fixed) (p : Packet) → bytes_over fixed (p ∷ []) ≡ field_bytes fixed p.streams
 unfolding bytes_over
@@ -244,7 +235,7 @@ counted-later s fixed j first chunk found (p ∷ ps) some =
     (λ (same : p.restart ≡ false).
     let joined : (chunk ++ p ∷ []) ++ head_of (cut ps) ≡ chunk ++ head_of (onto_first p (cut ps)) = append_assoc chunk (p ∷ []) (head_of (cut ps)) ∙ ap (λ (l : List Packet). chunk ++ l) (sym (head-onto p (cut ps))) in
     rest-next s (Counted fixed) (came_as j first (bytes_over fixed chunk) found) p ps
-    ∙ ap (λ (came : Came). rest_fault s (Counted fixed) came ps) (counted-goes_on s fixed j first (bytes_over fixed chunk) p.place (field_bytes fixed p.streams) p.restart found (or-same (j == 0) p.restart some same))
+    ∙ ap (λ (came : Came). rest_fault s (Counted fixed) came ps) (counted-goes_on s fixed j first (bytes_over fixed chunk) p.place (field_bytes fixed p.streams) p.restart found (or_from (j == 0) p.restart some same))
     ∙ ap (λ (b : ℕ). rest_fault s (Counted fixed) (came_as j first b found) ps) (sym (bytes-more fixed chunk p))
     ∙ counted-later s fixed j first (chunk ++ p ∷ []) found ps some
     ∙ ap (λ (l : List Packet). option_or found (restarts_fault s fixed first l (drop 1 (cut ps)))) joined

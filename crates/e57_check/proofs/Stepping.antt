@@ -1,28 +1,28 @@
 -- One packet more, by what was loaded.
-use Rattle.std.specs.Prelude.{◌≡◌, ℕ, zero, suc, ◌+◌, ◌*◌, ◌≤◌, Bool, false, List, [], ◌∷◌, length, get_or, Option, Some, None, IfSome}
+use Rattle.std.specs.Prelude.{◌≡◌, ℕ, ◌+◌, ◌*◌, ◌≤◌, Bool, false, List, Option, Some, None, IfSome}
 use Rattle.std.specs.Option.{option_or}
 use Rattle.std.proofs.Common.{refl, sym, subst, ap, ◌∙◌, arith, ⊎_elim}
 use Rattle.std.proofs.lemmas.Bool.{cond_both}
-use Rattle.std.proofs.lemmas.List.Sums.{sum-map, sum_by-cons}
 use Rattle.e57_base.specs.Source.{SourceView}
-use Rattle.e57_base.specs.Told.{told_map}
+use Rattle.e57_base.proofs.Told.{told_map}
 use Rattle.e57_base.specs.declared.fault.ReadFault.{ReadFault}
 use Rattle.e57_page.specs.File.{logical}
-use Rattle.e57_layout.specs.Packets.{total, data_size}
+use Rattle.e57_layout.specs.Packets.{data_size}
 use Rattle.e57_layout.specs.declared.section.Section.{Section}
-use Rattle.e57_sections.specs.Walk.{Packet, packet_at}
+use Rattle.e57_cloud.specs.Walk.{Packet, packet_at}
 use Rattle.e57_section.specs.declared.load.Loaded.{Loaded}
 use Rattle.e57_section.specs.declared.load.Loaded.TheVariants.{Stream, Index, Empty}
 use Rattle.e57_section.specs.Loading.{loaded_length, needed_by, HoldsStreams, IsLoaded, loaded_as, LoadsPacket, LosesPacket}
-use Rattle.e57_section.specs.AskingLaws.{loaded_packet}
+use Rattle.e57_section.proofs.AskingLaws.{loaded_packet}
 use Rattle.e57_check.specs.Asking.{AsksPages}
-use Rattle.e57_check.specs.AskingLaws.{packet_pages}
+use Rattle.e57_check.proofs.AskingLaws.{packet_pages}
 use Rattle.e57_check.specs.Starts.{AreStarts, float_bytes, items, start_fault, begins, arrived}
 use Rattle.e57_check.specs.Passing.{IsWithin, came_with, Steps, StepsNot}
 use Rattle.e57_check.specs.declared.starts.Starts.{Starts}
 use Rattle.e57_check.specs.declared.starts.Starts.TheVariants.{Indexed, Counted}
 use Rattle.e57_check.specs.declared.starts.Came.{Came}
 use Rattle.e57_check.specs.declared.starts.Passed.{Passed}
+use Rattle.e57_ahead.proofs.Taking.{get-total}
 
 -- ---- pages
 
@@ -69,25 +69,6 @@ past-step count old new kept now s starts r answer held other inside within load
       came = told_map (λ file. IsLoaded (logical file) r.taken answer held) (λ file. r.came ≡ came_with s starts r.came (packet_at (logical file) r.taken)) old.held
           (λ file is. subst (λ (p : Packet). r.came ≡ came_with s starts r.came p) (sym (loaded_packet (logical file) r.taken answer held is)) (rw other refl)) loads.read;
     }
-
--- ---- a data packet
-
-total-cons : (x : List ℕ) (xs : List (List ℕ)) → total (x ∷ xs) ≡ length x + total xs
-total-cons x xs =
-    let size = λ (stream : List ℕ). length stream in
-    sum-map size (x ∷ xs) ∙ sum_by-cons size x xs ∙ ap (λ (n : ℕ). length x + n) (sym (sum-map size xs))
-
-get-total : (streams : List (List ℕ)) (f : ℕ) → length (get_or streams f []) ≤ total streams
-get-total [] f = omega arith
-get-total (x ∷ xs) zero =
-    let first : get_or (x ∷ xs) 0 [] ≡ x = refl in
-    let all = total-cons x xs in
-    rw first (omega (arith, all))
-get-total (x ∷ xs) (suc f) =
-    let rest = get-total xs f in
-    let later : get_or (x ∷ xs) (suc f) [] ≡ get_or xs f [] = refl in
-    let all = total-cons x xs in
-    rw later (omega (arith, all, rest))
 
 -- the bytes of the Float field are some of the packet's
 bytes-size : (starts : Starts) (streams : List (List ℕ)) (n : ℕ) → data_size streams ≤ n → float_bytes starts streams ≤ n

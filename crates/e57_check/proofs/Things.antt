@@ -3,29 +3,28 @@ use Rattle.std.specs.Prelude.{◌≡◌, ℕ, ◌+◌, ◌*◌, ◌/◌, ◌<◌
 use Rattle.std.proofs.Common.{refl, sym, ap, ◌∙◌, arith}
 use Rattle.std.proofs.lemmas.Option.{slice_get-get_or}
 use Rattle.std.proofs.lemmas.Bool.{ltb-false}
-use Rattle.e57_base.specs.Fault.{read_as_open}
+use Rattle.e57_base.specs.Fault.{read_as_open, fault}
 use Rattle.e57_base.specs.Source.{SourceView}
-use Rattle.e57_base.specs.Told.{told_map}
+use Rattle.e57_base.proofs.Told.{told_map}
 use Rattle.e57_base.specs.declared.fault.ReadFault.{ReadFault}
 use Rattle.e57_base.specs.declared.fault.ReadFault.TheVariants as of_read
 use Rattle.e57_base.specs.declared.fault.OpenFault.{OpenFault}
-use Rattle.e57_base.specs.Fault.{fault}
 use Rattle.e57_base.specs.declared.kind.Kind.TheVariants.{BlobPlace}
 use Rattle.e57_page.specs.Place.{place, span_end}
 use Rattle.e57_page.specs.Pages.{Reading}
-use Rattle.e57_sections.specs.Section.{or_zero}
+use Rattle.e57_cloud.specs.Section.{or_zero}
 use Rattle.e57_elements.specs.Tree.{Element, preorder}
 use Rattle.e57_elements.specs.declared.tree.RawNode.{RawNode}
-use Rattle.e57_file.specs.Blob.{blob_fault as stated_fault, blob_fault_from as stated_from, OfBlob, blob_head, head_within, head_place}
+use Rattle.e57_file.specs.Blob.{stated_blob_fault, stated_blob_fault_from, OfBlob, blob_head, head_within, head_place}
 use Rattle.e57_file.specs.BlobReading.{AsksHead, OpensBlob, OpensNoBlob, JudgesBlobPlace, IsPastBlobPlace}
 use Rattle.e57_tree.specs.declared.items.Item.TheVariants as item
 use Rattle.e57_tree.specs.declared.items.Blob.{Blob as StatedBlob}
-use Rattle.e57_tree.specs.Held.{blobs_of}
+use Rattle.e57_tree.specs.Held.{blobs_of, no_blob, blob_in}
 use Rattle.e57_verdict.specs.Things.{thing_fault}
 use Rattle.e57_verdict.specs.Blob.{Blob, blob_fault, blob_fault_from}
 use Rattle.e57_check.specs.Asking.{AsksPages}
-use Rattle.e57_check.specs.AskingLaws.{asks_pages_none, asks_anywhere, unkept_pages, span_below}
-use Rattle.e57_check.specs.Checking.{no_blob, blob_in, thing_in, JudgesThing, RefusesThing}
+use Rattle.e57_check.proofs.AskingLaws.{asks_pages_none, asks_anywhere, unkept_pages, span_below}
+use Rattle.e57_check.specs.Checking.{thing_in, JudgesThing, RefusesThing}
 use Rattle.e57_check.specs.declared.summary.Summary.{Summary}
 
 -- a blob of a tree
@@ -33,15 +32,15 @@ blob_of : StatedBlob → Blob
 blob_of b = record { node = b.node; offset = b.place; length = b.length }
 
 -- the first fault of a blob's section is that of the verdict
-stated : (file : List ℕ) (b : StatedBlob) → stated_fault file b ≡ stated_from file b (place b.place)
-unfolding stated_fault
+stated : (file : List ℕ) (b : StatedBlob) → stated_blob_fault file b ≡ stated_blob_fault_from file b (place b.place)
+unfolding stated_blob_fault
 stated file b = refl
 
-pub same-blob : (file : List ℕ) (b : StatedBlob) → stated_fault file b ≡ blob_fault file (record { node = b.node; offset = b.place; length = b.length })
+pub same-blob : (file : List ℕ) (b : StatedBlob) → stated_blob_fault file b ≡ blob_fault file (record { node = b.node; offset = b.place; length = b.length })
 unfolding blob_fault
 same-blob file b = stated file b ∙ by_place (place b.place)
   where
-    by_place : (p : Option ℕ) → stated_from file b p ≡ blob_fault_from file (record { node = b.node; offset = b.place; length = b.length }) p
+    by_place : (p : Option ℕ) → stated_blob_fault_from file b p ≡ blob_fault_from file (record { node = b.node; offset = b.place; length = b.length }) p
     by_place None = refl
     by_place (Some q) = refl
 
@@ -78,7 +77,7 @@ pub blob-read : (count : ℕ) (old new : SourceView) (kept now : List ℕ) (e : 
 blob-read count old new kept now e k start summary opens = record {
   none = record {
     source = asks_anywhere (λ file. Unit {0}) count old new (head-pages count old new kept (blob_in e k) (blob_head (blob_in e k)) opens.lies opens.source);
-    sound = told_map (λ file. stated_fault file (blob_in e k) ≡ None) (λ file. thing_fault file (thing_in e (item.Blob k)) ≡ None) old.held (λ file none. sym (same-blob file (blob_in e k)) ∙ none) opens.sound;
+    sound = told_map (λ file. stated_blob_fault file (blob_in e k) ≡ None) (λ file. thing_fault file (thing_in e (item.Blob k)) ≡ None) old.held (λ file none. sym (same-blob file (blob_in e k)) ∙ none) opens.sound;
   };
   counted = refl;
 }
@@ -97,6 +96,6 @@ blob-refused count old new kept now e k found given same asks lost = rw same (by
     by_fault : (found : ReadFault) → OpensNoBlob old kept (blob_in e k) found new now → RefusesThing count old e (item.Blob k) (read_as_open found) new
     by_fault (of_read.Refused f) lost = record {
       source = asks_anywhere (λ file. Unit {0}) count old new asks;
-      cause = told_map (λ file. stated_fault file (blob_in e k) ≡ Some f) (λ file. thing_fault file (thing_in e (item.Blob k)) ≡ Some f) old.held (λ file is. sym (same-blob file (blob_in e k)) ∙ is) lost.cause.1;
+      cause = told_map (λ file. stated_blob_fault file (blob_in e k) ≡ Some f) (λ file. thing_fault file (thing_in e (item.Blob k)) ≡ Some f) old.held (λ file is. sym (same-blob file (blob_in e k)) ∙ is) lost.cause.1;
     }
     by_fault of_read.Source lost = record { source = asks_anywhere (λ file. Unit {0}) count old new asks; cause = lost.cause }

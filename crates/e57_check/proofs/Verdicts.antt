@@ -3,17 +3,17 @@ use Rattle.std.specs.Prelude.{◌≡◌, ℕ, zero, suc, ◌+◌, ◌/◌, ◌<�
 use Rattle.std.specs.List.{AllByRecursion, range_with_len}
 use Rattle.std.specs.Option.{option_or}
 use Rattle.std.proofs.Common.{sym, subst, ap, ◌∙◌, arith, inl, inr, ⊎_elim, zero-add}
-use Rattle.e57_base.specs.Count.{rose_before}
+use Rattle.e57_base.proofs.CountLaws.{rose_before}
 use Rattle.e57_base.specs.Fault.{read_as_open}
 use Rattle.e57_base.specs.Source.{SourceView}
-use Rattle.e57_base.specs.Told.{told_both, told_here, length_told}
+use Rattle.e57_base.proofs.Told.{told_both, told_here, length_told}
 use Rattle.e57_base.specs.declared.fault.Fault.{Fault}
 use Rattle.e57_base.specs.declared.fault.ReadFault.{ReadFault}
 use Rattle.e57_base.specs.declared.fault.ReadFault.TheVariants as of_read
 use Rattle.e57_base.specs.declared.fault.OpenFault.{OpenFault}
 use Rattle.e57_base.specs.declared.fault.OpenFault.TheVariants.{Refused, Source, Memory}
 use Rattle.e57_page.specs.File.{page_fault, pages_fault, opening_fault, logical_size}
-use Rattle.e57_page.specs.FileLaws.{pages_fault-found}
+use Rattle.e57_page.proofs.FileLaws.{pages_fault-found}
 use Rattle.e57_page.specs.Header.{header_of}
 use Rattle.e57_page.specs.Pages.{Reading, IsScanned, IsScannedTo}
 use Rattle.e57_page.specs.Place.{span_end}
@@ -24,13 +24,13 @@ use Rattle.e57_elements.specs.declared.tree.RawNode.{RawNode}
 use Rattle.e57_nodes.specs.Shape.{shape_of}
 use Rattle.e57_nodes.specs.Typed.{typed_fault}
 use Rattle.e57_nodes.specs.Items.{stated_items}
-use Rattle.e57_file.specs.Text.{section_fault, AsksForXml}
-use Rattle.e57_file.specs.Opened.{HasTree as HasReadTree, IsTreeFault, HasNodes, IsOpenCause}
+use Rattle.e57_file.specs.Text.{xml_fault, AsksForXml}
+use Rattle.e57_file.specs.Opened.{HasXmlTree, IsTreeFault, HasNodes, IsOpenCause}
 use Rattle.e57_verdict.specs.Things.{things_in, things_fault, cloud_count, blob_count}
 use Rattle.e57_verdict.specs.Verdict.{all_pages_fault, fault_before_text, fault_behind_text, HasTree, IsFileFault, IsVerdict, accepted, refused, accepted_with}
-use Rattle.e57_verdict.specs.Laws.Opening.{before-opening, before-section}
+use Rattle.e57_verdict.proofs.Laws.Opening.{before-opening, before-section}
 use Rattle.e57_check.specs.Asking.{AsksWhere}
-use Rattle.e57_check.specs.AskingLaws.{asks_where_on, asks_anywhere, unkept_pages}
+use Rattle.e57_check.proofs.AskingLaws.{asks_where_on, asks_anywhere, unkept_pages}
 use Rattle.e57_check.specs.Checking.{Accepts, IsRejection, Rejects, Counts, JudgesThings, RefusesThings}
 use Rattle.e57_check.specs.declared.summary.Summary.{Summary}
 
@@ -80,7 +80,7 @@ scan-lost size n old new found given same whole_file lost =
 
 -- what is judged before the text is that of the XML section
 abbrev pub IsBefore : List ℕ → Type 0
-IsBefore file = fault_before_text file ≡ section_fault file
+IsBefore file = fault_before_text file ≡ xml_fault file
 
 -- All pages were read, and none has a fault.
 pub record HasPages (count : ℕ) (old new : SourceView) : Type 0 where
@@ -94,7 +94,7 @@ scanned size count old new whole_file same is =
       before = told_both (IsOpen size) (λ file. pages_fault file 0 count ≡ None) IsBefore old.held
           (λ file known right.
           let all : all_pages_fault file ≡ None = subst (λ (k : ℕ). pages_fault file 0 (k / 1024) ≡ None) (sym known.long) (subst (λ (k : ℕ). pages_fault file 0 k ≡ None) same right) in
-          before-section file all ∙ ap (λ (o : Option Fault). option_or o (section_fault file)) known.first) whole_file is.right;
+          before-section file all ∙ ap (λ (o : Option Fault). option_or o (xml_fault file)) known.first) whole_file is.right;
     }
   where
     asked : (held : Option (List ℕ)) → AllByRecursion (λ (p : ℕ). p < size / 1024) (range_with_len 0 count) → IfSome held (λ file. Unit {0} → AllByRecursion (λ (p : ℕ). p < size / 1024) (range_with_len 0 count))
@@ -112,8 +112,8 @@ tree-fault : (file : List ℕ) (found : Fault) → IsBefore file → IsTreeFault
 unfolding fault_behind_text
 tree-fault file found before lost =
     ⊎_elim
-    (λ text. ⊎_elim (λ (first : section_fault file ≡ Some found). inl (before ∙ first)) (λ later. inr (inl (before ∙ later.0, later.1))) text)
-    (λ (node : (tree : Element) × HasReadTree file tree × (typed_fault (shape_of tree) ≡ Some found)).
+    (λ text. ⊎_elim (λ (first : xml_fault file ≡ Some found). inl (before ∙ first)) (λ later. inr (inl (before ∙ later.0, later.1))) text)
+    (λ (node : (tree : Element) × HasXmlTree file tree × (typed_fault (shape_of tree) ≡ Some found)).
     inr (inr (node.0, record { sound = before ∙ node.1.sound; spells = node.1.spells; is_lawful = node.1.is_lawful }, ap (λ (o : Option Fault). option_or o (things_fault file (things_in node.0))) node.2))) lost
 
 pub tree-lost : (count : ℕ) (old mid new : SourceView) (found : OpenFault) → HasPages count old mid → AsksWhere (λ file. Unit {0}) count mid new → IsOpenCause mid found new → Rejects count old found new
@@ -144,7 +144,7 @@ opened count old mid new nodes pages asks has are = record {
 
 -- ---- its clouds and blobs
 
-has-tree : (file : List ℕ) (tree : Element) → IsBefore file → HasReadTree file tree → HasTree file tree
+has-tree : (file : List ℕ) (tree : Element) → IsBefore file → HasXmlTree file tree → HasTree file tree
 has-tree file tree before has = record { sound = before ∙ has.sound; spells = has.spells; is_lawful = has.is_lawful }
 
 things-after : (file : List ℕ) (tree : Element) (o : Option Fault) → typed_fault (shape_of tree) ≡ None → things_fault file (things_in tree) ≡ o → fault_behind_text file tree ≡ o

@@ -1,12 +1,11 @@
 -- The clouds and blobs of a tree, one after another.
-use Rattle.std.proofs.Common.{◌≡◌, ℕ, zero, suc, ◌+◌, ◌*◌, ◌^◌, ◌<◌, ◌≤◌, List, [], ◌∷◌, length, drop, get_or, Option, Some, None, slice_get, IfSome, refl, sym, ap, subst, ◌∙◌, arith, add-one}
+use Rattle.std.proofs.Common.{◌≡◌, ℕ, suc, ◌+◌, ◌*◌, ◌^◌, ◌<◌, ◌≤◌, List, [], ◌∷◌, length, drop, get_or, Option, Some, None, slice_get, IfSome, refl, sym, ap, subst, ◌∙◌, arith}
 use Rattle.std.specs.List.{AllByRecursion, filter_map, cons_option}
 use Rattle.std.specs.Option.{option_or}
-use Rattle.std.proofs.lemmas.Option.{get_or_from_slice_get, slice_get-get_or, slice_get_within}
+use Rattle.std.proofs.lemmas.Option.{get_or_from_slice_get, slice_get-get_or}
 use Rattle.std.proofs.Math.ListN.{drop_of_length-le}
-use Rattle.std.proofs.Math.Seq.{drop-cons}
 use Rattle.e57_base.specs.Source.{SourceView}
-use Rattle.e57_base.specs.Told.{told_map, told_both, told_here}
+use Rattle.e57_base.proofs.Told.{told_map, told_both, told_here}
 use Rattle.e57_base.specs.declared.fault.Fault.{Fault}
 use Rattle.e57_base.specs.declared.fault.OpenFault.{OpenFault}
 use Rattle.e57_elements.specs.Tree.{Element, preorder}
@@ -17,21 +16,22 @@ use Rattle.e57_nodes.specs.Shape.{shape_of, node_count}
 use Rattle.e57_nodes.specs.Typed.{typed_fault}
 use Rattle.e57_nodes.specs.Places.{places_in, stated_place}
 use Rattle.e57_nodes.specs.Items.{StatedItem, stated_cloud, stated_blob, stated_items, leaves_of}
-use Rattle.e57_nodes.specs.Laws.Sound.{IsSoundItem, sound_items}
-use Rattle.e57_nodes.specs.Laws.Stated.{length-stated_items}
+use Rattle.e57_nodes.proofs.Laws.Sound.{IsSoundItem, sound_items}
+use Rattle.e57_nodes.proofs.Laws.Stated.{length-stated_items}
 use Rattle.e57_tree.specs.declared.items.Cloud.{Cloud}
 use Rattle.e57_tree.specs.declared.items.Blob.{Blob}
 use Rattle.e57_tree.specs.declared.items.Item.{Item}
 use Rattle.e57_tree.specs.declared.items.Item.TheVariants as item
-use Rattle.e57_tree.specs.Held.{clouds_among, blobs_among, items_among, fields_among, clouds_of, blobs_of, items_of, cloud_fields}
-use Rattle.e57_tree.specs.Laws.Flat.{node_count-shape_of}
+use Rattle.e57_tree.specs.Held.{clouds_among, blobs_among, items_among, fields_among, clouds_of, blobs_of, items_of, cloud_fields, no_cloud, no_blob, cloud_in, blob_in, fields_in}
+use Rattle.e57_tree.proofs.Laws.Flat.{node_count-shape_of}
 use Rattle.e57_verdict.specs.Things.{Thing, cloud_thing, blob_thing, thing_at, thing_fault, things_at, things_in as things_of, things_fault, cloud_count, blob_count, record_count}
 use Rattle.e57_check.specs.Asking.{AsksWhere}
-use Rattle.e57_check.specs.AskingLaws.{asks_where_none, asks_where_on}
+use Rattle.e57_check.proofs.AskingLaws.{asks_where_none, asks_where_on}
 use Rattle.e57_check.specs.Clouds.{HasNone, Refuses, cloud_of}
-use Rattle.e57_check.specs.Checking.{no_cloud, no_blob, cloud_in, blob_in, fields_in, FitsItem, thing_in, JudgesThing, RefusesThing, JudgesThings, RefusesThings}
+use Rattle.e57_check.specs.Checking.{FitsItem, thing_in, JudgesThing, RefusesThing, JudgesThings, RefusesThings}
 use Rattle.e57_check.specs.declared.summary.Summary.{Summary}
 use Rattle.e57_check.proofs.Bodies.{refuses-later}
+use Rattle.e57_base.proofs.Lists.{first_left, none_left, stands_at}
 
 -- ---- how many there are
 
@@ -103,28 +103,6 @@ pub record Walked (count : ℕ) (old : SourceView) (e : Element) (i : ℕ) (summ
   pub blobs : ℕ
   pub left : Left count old e i summary new rest places clouds blobs
 
--- ---- one more
-
--- x stands at place k, and these follow
-record At {X : Type 0} (xs : List X) (k : ℕ) (x : X) (ys : List X) : Type 0 where
-  there : k < length xs
-  got : slice_get xs k ≡ Some x
-  after : drop (k + 1) xs ≡ ys
-
-same_head : {X : Type 0} (x y : X) (xs ys : List X) → ◌≡◌ {A = List X} (x ∷ xs) (y ∷ ys) → (x ≡ y) × (xs ≡ ys)
-same_head x y xs ys e = (cc, cc)
-
-later : {X : Type 0} (xs : List X) (k : ℕ) (x : X) (ys : List X) (z : X) → At xs k x ys → At (z ∷ xs) (suc k) x ys
-later xs k x ys z h =
-    let there = h.there in
-    record { there = omega (arith, there); got = h.got; after = ap (λ n. drop n (z ∷ xs)) (add-one (suc k)) ∙ ap (λ n. drop n xs) (sym (add-one k)) ∙ h.after }
-
-at : {X : Type 0} (xs : List X) (k : ℕ) (x : X) (ys : List X) → drop k xs ≡ x ∷ ys → At xs k x ys
-at [] zero x ys e = absurd cc
-at [] (suc k) x ys e = absurd cc
-at (z ∷ zs) zero x ys e = let both = same_head z x zs ys e in record { there = omega arith; got = ap (λ y. Some y) both.0; after = both.1 }
-at (z ∷ zs) (suc k) x ys e = later zs k x ys z (at zs k x ys e)
-
 -- item i fits, and what judging it answers goes on
 pub record NextItem (count : ℕ) (old : SourceView) (e : Element) (i : ℕ) (summary : Summary) (x : Item) (mid : SourceView) : Type 0 where
   pub fits : FitsItem e x summary
@@ -150,8 +128,8 @@ cloud-next : (count : ℕ) (old : SourceView) (e : Element) (i : ℕ) (summary :
     → Left count old e i summary mid (stated_cloud n records fields ∷ rest) (place ∷ places) c b → NextItem count old e i summary (item.Cloud c) mid
 cloud-next count old e i summary mid n records fields rest place places c b left =
     let cloud : Cloud = record { node = n; place = place; count = records } in
-    let here = at (clouds_of e) c cloud (clouds_among rest places) left.clouds_left in
-    let row = at (cloud_fields e) c fields (fields_among rest) left.fields_left in
+    let here = stands_at (clouds_of e) c cloud (clouds_among rest places) left.clouds_left in
+    let row = stands_at (cloud_fields e) c fields (fields_among rest) left.fields_left in
     let is : cloud_in e c ≡ cloud = get_or_from_slice_get (clouds_of e) c cloud no_cloud here.got in
     let of : fields_in e c ≡ fields = get_or_from_slice_get (cloud_fields e) c fields [] row.got in
     let same : thing_in e (item.Cloud c) ≡ thing_at (stated_cloud n records fields) place =
@@ -175,7 +153,7 @@ cloud-next count old e i summary mid n records fields rest place places c b left
             clouds = c + 1;
             blobs = b;
             left = record {
-              items_left = (at (items_of e) i (item.Cloud c) (items_among (c + 1) b rest) left.items_left).after;
+              items_left = (stands_at (items_of e) i (item.Cloud c) (items_among (c + 1) b rest) left.items_left).after;
               clouds_left = here.after;
               blobs_left = left.blobs_left;
               fields_left = row.after;
@@ -196,7 +174,7 @@ blob-next : (count : ℕ) (old : SourceView) (e : Element) (i : ℕ) (summary : 
     → Left count old e i summary mid (stated_blob n size ∷ rest) (place ∷ places) c b → NextItem count old e i summary (item.Blob b) mid
 blob-next count old e i summary mid n size rest place places c b left =
     let blob : Blob = record { node = n; place = place; length = size } in
-    let here = at (blobs_of e) b blob (blobs_among rest places) left.blobs_left in
+    let here = stands_at (blobs_of e) b blob (blobs_among rest places) left.blobs_left in
     let is : blob_in e b ≡ blob = get_or_from_slice_get (blobs_of e) b blob no_blob here.got in
     let same : thing_in e (item.Blob b) ≡ thing_at (stated_blob n size) place = ap (λ (x : Blob). blob_thing (record { node = x.node; offset = x.place; length = x.length })) is in
     let blobs = left.blobs_sum in
@@ -215,7 +193,7 @@ blob-next count old e i summary mid n size rest place places c b left =
             clouds = c;
             blobs = b + 1;
             left = record {
-              items_left = (at (items_of e) i (item.Blob b) (items_among c (b + 1) rest) left.items_left).after;
+              items_left = (stands_at (items_of e) i (item.Blob b) (items_among c (b + 1) rest) left.items_left).after;
               clouds_left = left.clouds_left;
               blobs_left = here.after;
               fields_left = left.fields_left;
@@ -232,27 +210,15 @@ blob-next count old e i summary mid n size rest place places c b left =
       refuses = λ found new lost. first-refused count old mid new e (thing_at (stated_blob n size) place) (thing_in e (item.Blob b)) (things_at rest places) found same left.source left.known lost;
     }
 
-first-left : {X : Type 0} (xs : List X) (k : ℕ) (x y : X) (ys : List X) → slice_get xs k ≡ Some x → drop k xs ≡ y ∷ ys → x ≡ y
-first-left {X} xs k x y ys got left = same x y (sym got ∙ (at xs k y ys left).got) where
-  same : (a b : X) → ◌≡◌ (Some a) (Some b) → a ≡ b
-  same a b e = cc
-
-none-left : {X : Type 0} (xs : List X) (k : ℕ) (x : X) → slice_get xs k ≡ Some x → drop k xs ≡ [] → ⊥
-none-left xs k x got left =
-    let here = drop-cons xs k x (slice_get_within xs k x got) in
-    empty x _ _ (sym here ∙ left) where
-      empty : {X : Type 0} (x y : X) (ys : List X) → ◌≡◌ {A = List X} (y ∷ ys) [] → ⊥
-      empty x y ys e = cc
-
 by-item : (count : ℕ) (old : SourceView) (e : Element) (i : ℕ) (summary : Summary) (mid : SourceView) (x : Item) (rest : List StatedItem) (places : List ℕ) (c b : ℕ)
     → Left count old e i summary mid rest places c b → slice_get (items_of e) i ≡ Some x → NextItem count old e i summary x mid
-by-item count old e i summary mid x [] places c b left got = absurd (none-left (items_of e) i x got left.items_left)
+by-item count old e i summary mid x [] places c b left got = absurd (none_left (items_of e) i x got left.items_left)
 by-item count old e i summary mid x (s ∷ rest) [] c b left got = let many = left.as_many in absurd (omega (arith, many))
 by-item count old e i summary mid x (stated_cloud n records fields ∷ rest) (place ∷ places) c b left got =
-    let same = first-left (items_of e) i x (item.Cloud c) (items_among (c + 1) b rest) got left.items_left in
+    let same = first_left (items_of e) i x (item.Cloud c) (items_among (c + 1) b rest) got left.items_left in
     subst (λ (y : Item). NextItem count old e i summary y mid) (sym same) (cloud-next count old e i summary mid n records fields rest place places c b left)
 by-item count old e i summary mid x (stated_blob n size ∷ rest) (place ∷ places) c b left got =
-    let same = first-left (items_of e) i x (item.Blob b) (items_among c (b + 1) rest) got left.items_left in
+    let same = first_left (items_of e) i x (item.Blob b) (items_among c (b + 1) rest) got left.items_left in
     subst (λ (y : Item). NextItem count old e i summary y mid) (sym same) (blob-next count old e i summary mid n size rest place places c b left)
 
 -- item i of a list that is that of the tree

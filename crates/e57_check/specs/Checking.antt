@@ -1,5 +1,5 @@
 -- The verdict on an open file: what `check` answers, and what it does to the source.
-use Rattle.std.specs.Prelude.{◌≡◌, ℕ, ◌+◌, ◌^◌, ◌<◌, ◌≤◌, List, [], length, slice_index_or, IfSome}
+use Rattle.std.specs.Prelude.{◌≡◌, ℕ, ◌+◌, ◌^◌, ◌<◌, ◌≤◌, length, IfSome}
 use Rattle.e57_base.specs.Count.{Rose}
 use Rattle.e57_base.specs.Source.{SourceView}
 use Rattle.e57_base.specs.declared.fault.OpenFault.{OpenFault}
@@ -7,14 +7,11 @@ use Rattle.e57_base.specs.declared.fault.OpenFault.TheVariants.{Refused, Source,
 use Rattle.e57_elements.specs.Tree.{Element}
 use Rattle.e57_nodes.specs.Shape.{shape_of}
 use Rattle.e57_nodes.specs.Items.{stated_items, leaves_of}
-use Rattle.e57_layout.specs.declared.field.Field.{Field}
-use Rattle.e57_sections.specs.Cloud.{cloud_fault}
+use Rattle.e57_cloud.specs.Cloud.{cloud_fault}
 use Rattle.e57_section.specs.Opening.{most_records}
-use Rattle.e57_tree.specs.declared.items.Cloud.{Cloud as StatedCloud}
-use Rattle.e57_tree.specs.declared.items.Blob.{Blob as StatedBlob}
 use Rattle.e57_tree.specs.declared.items.Item.{Item}
 use Rattle.e57_tree.specs.declared.items.Item.TheVariants as item
-use Rattle.e57_tree.specs.Held.{clouds_of, blobs_of, cloud_fields}
+use Rattle.e57_tree.specs.Held.{clouds_of, blobs_of, cloud_in, blob_in, fields_in}
 use Rattle.e57_verdict.specs.Things.{Thing, cloud_thing, blob_thing, thing_fault, things_in, things_fault, cloud_count, blob_count, record_count}
 use Rattle.e57_verdict.specs.Verdict.{IsVerdict, accepted, refused}
 use Rattle.e57_check.specs.Asking.{AsksWhere}
@@ -51,23 +48,6 @@ pub record JudgesThings (count : ℕ) (old : SourceView) (e : Element) (summary 
 
 abbrev pub RefusesThings : ℕ → SourceView → Element → OpenFault → SourceView → Type 0
 RefusesThings count old e found new = Refuses (λ file. things_fault file (things_in e)) count old found new
-
--- ---- one cloud or blob
-
-abbrev pub no_cloud : StatedCloud
-no_cloud = record { node = 0; place = 0; count = 0 }
-
-abbrev pub no_blob : StatedBlob
-no_blob = record { node = 0; place = 0; length = 0 }
-
-abbrev pub cloud_in : Element → ℕ → StatedCloud
-cloud_in e k = slice_index_or (clouds_of e) k no_cloud
-
-abbrev pub blob_in : Element → ℕ → StatedBlob
-blob_in e k = slice_index_or (blobs_of e) k no_blob
-
-abbrev pub fields_in : Element → ℕ → List Field
-fields_in e k = slice_index_or (cloud_fields e) k []
 
 -- the tree has a cloud of this number, with no more records than the limit
 pub record IsCloud (e : Element) (k : ℕ) : Type 0 where

@@ -7,8 +7,8 @@ use Rattle.e57_base.specs.declared.fault.OpenFault.{OpenFault}
 use Rattle.e57_base.specs.declared.fault.OpenFault.TheVariants.{Refused, Source, Memory}
 use Rattle.e57_layout.specs.declared.section.Section.{Section}
 use Rattle.e57_layout.specs.declared.field.Fixed.{Fixed}
-use Rattle.e57_sections.specs.Index.{index_fault, entries}
-use Rattle.e57_sections.specs.Cloud.{Leaf, Cloud, body_fault, cloud_fault}
+use Rattle.e57_cloud.specs.Index.{index_fault, entries}
+use Rattle.e57_cloud.specs.Cloud.{Leaf, Cloud, body_fault, cloud_fault}
 use Rattle.e57_tree.specs.declared.items.Cloud.{Cloud as StatedCloud}
 use Rattle.e57_check.specs.Asking.{AsksWhere}
 use Rattle.e57_check.specs.Starts.{AreStarts}

@@ -9,11 +9,9 @@ use Rattle.e57_base.specs.declared.fault.OpenFault.{OpenFault}
 use Rattle.e57_base.specs.declared.fault.OpenFault.TheVariants.{Refused, Source, Memory}
 use Rattle.e57_layout.specs.declared.section.Section.{Section}
 use Rattle.e57_layout.specs.declared.field.Fixed.{Fixed}
-use Rattle.e57_sections.specs.Chunks.{chunks}
-use Rattle.e57_sections.specs.Cloud.{Leaf, fields_fault}
-use Rattle.e57_sections.specs.PathItem.{item_of}
-use Rattle.e57_sections.specs.Laws.Items.{IsBodySound}
-use Rattle.e57_sections.specs.Laws.Refusals.{first_refusal}
+use Rattle.e57_cloud.specs.Chunks.{chunks}
+use Rattle.e57_cloud.specs.Cloud.{Leaf, fields_fault, IsBodySound}
+use Rattle.e57_cloud.specs.PathItem.{item_of, first_refusal}
 use Rattle.e57_check.specs.Asking.{AsksWhere}
 use Rattle.e57_column.specs.Column.{placed, column_item, leaf_of, StandsIn}
 use Rattle.e57_column.specs.Reading.{SameField, KeepsStanding}

@@ -1,5 +1,4 @@
 pub mod Asking
-pub mod AskingLaws
 pub mod Starts
 pub mod Sorts
 pub mod Passing

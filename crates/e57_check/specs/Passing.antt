@@ -8,8 +8,8 @@ use Rattle.e57_base.specs.declared.fault.ReadFault.{ReadFault}
 use Rattle.e57_base.specs.declared.fault.ReadFault.TheVariants.{Refused, Source}
 use Rattle.e57_page.specs.File.{logical}
 use Rattle.e57_layout.specs.declared.section.Section.{Section}
-use Rattle.e57_sections.specs.Walk.{Packet, packet_at, packet_fault, walk_from}
-use Rattle.e57_sections.specs.Chunks.{data_packets}
+use Rattle.e57_cloud.specs.Walk.{Packet, packet_at, packet_fault, walk_from}
+use Rattle.e57_cloud.specs.Chunks.{data_packets}
 use Rattle.e57_section.specs.Loading.{IsPacketCause}
 use Rattle.e57_check.specs.Asking.{AsksPages}
 use Rattle.e57_check.specs.Starts.{float_bytes, arrived, rest_fault}

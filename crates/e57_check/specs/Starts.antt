@@ -9,8 +9,8 @@ use Rattle.e57_page.specs.Place.{place}
 use Rattle.e57_layout.specs.declared.section.Section.{Section}
 use Rattle.e57_layout.specs.declared.packet.Entry.{Entry}
 use Rattle.e57_layout.specs.declared.field.Fixed.{Fixed}
-use Rattle.e57_sections.specs.Walk.{Packet}
-use Rattle.e57_sections.specs.Chunks.{starts_fault, unindexed_fault, compared}
+use Rattle.e57_cloud.specs.Walk.{Packet}
+use Rattle.e57_cloud.specs.Chunks.{starts_fault, unindexed_fault, compared}
 use Rattle.e57_check.specs.declared.starts.Starts.{Starts}
 use Rattle.e57_check.specs.declared.starts.Starts.TheVariants.{Indexed, Counted}
 use Rattle.e57_check.specs.declared.starts.Came.{Came}

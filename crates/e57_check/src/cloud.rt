@@ -4,7 +4,7 @@ ghost use Rattle.std.specs.Prelude.{◌≡◌, ◌*◌, ◌/◌, ◌≤◌, leng
 ghost use Rattle.e57_base.specs.Source.{page_length};
 ghost use Rattle.e57_page.specs.Place.{payload_length};
 ghost use Rattle.e57_nodes.specs.Items.{leaves_of};
-ghost use Rattle.e57_sections.specs.Cloud.{float_from};
+ghost use Rattle.e57_cloud.specs.Cloud.{float_from};
 ghost use Rattle.e57_section.specs.Opening.{LiesIn, most_records};
 ghost use Rattle.e57_tree.specs.Held.{AreCloudFields};
 ghost use Rattle.e57_check.specs.Starts.{IsField, IsWidth};

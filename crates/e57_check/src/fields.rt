@@ -5,7 +5,7 @@ ghost use Rattle.e57_base.specs.Source.{page_length};
 ghost use Rattle.e57_page.specs.Place.{payload_length};
 ghost use Rattle.e57_layout.specs.Values.{item_kind, IsValidField};
 ghost use Rattle.e57_nodes.specs.Items.{leaves_of};
-ghost use Rattle.e57_sections.specs.PathItem.{constant_of};
+ghost use Rattle.e57_cloud.specs.PathItem.{constant_of};
 ghost use Rattle.e57_section.specs.Opening.{LiesIn};
 ghost use Rattle.e57_tree.specs.Held.{AreCloudFields};
 ghost use Rattle.e57_check.specs.Starts.{IsField, IsWidth};

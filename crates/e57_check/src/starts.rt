@@ -1,8 +1,7 @@
 //! The chunk starts of a section, judged one after another.
 
 ghost use Rattle.std.specs.Prelude.{◌≡◌, ◌+◌, ◌<◌, ◌^◌, slice_get};
-ghost use Rattle.e57_check.specs.Starts.{AreStarts, IsWidth, items as the_items, float_items, start_fault as the_start_fault};
-ghost use Rattle.e57_check.specs.Starts.{left_fault as the_left_fault, entry_start_fault, left_entry_fault, counted_start_fault, arrived as the_arrived};
+ghost use Rattle.e57_check.specs.Starts.{AreStarts, IsWidth, items as the_items, float_items, start_fault as the_start_fault, left_fault as the_left_fault, entry_start_fault, left_entry_fault, counted_start_fault, arrived as the_arrived};
 
 use e57_base::{Fault, Kind};
 use e57_index::Entries;

@@ -1,14 +1,13 @@
 -- Pages of a search and beside them pages between two places: one call after another.
-use Rattle.std.specs.Prelude.{◌≡◌, ℕ, ◌+◌, ◌-◌, ◌/◌, ◌<◌, ◌≤◌, ◌⊎◌, List, [], ◌∷◌, ◌++◌, length}
+use Rattle.std.specs.Prelude.{◌≡◌, ℕ, ◌+◌, ◌-◌, ◌≤◌, List, [], ◌∷◌, ◌++◌, length}
 use Rattle.std.specs.List.{AllByRecursion}
-use Rattle.std.proofs.Common.{refl, sym, subst, arith, inl, inr, ⊎_elim}
-use Rattle.std.proofs.lemmas.Bool.Decides.{nat_tests}
+use Rattle.std.proofs.Common.{subst, arith, inl, inr}
 use Rattle.e57_base.specs.Source.{SourceView}
-use Rattle.e57_page.specs.Place.{span_end}
-use Rattle.e57_page.specs.PagesLaws.{asks_for_none, asks_for_on}
-use Rattle.e57_sections.specs.Met.{InSpan}
+use Rattle.e57_page.proofs.PagesLaws.{asks_for_none, asks_for_on}
+use Rattle.e57_cloud.specs.Met.{InSpan}
 use Rattle.e57_stream.specs.Asking.{AsksNear}
 use Rattle.e57_column.specs.Asking.{AreApart, AsksApart}
+use Rattle.e57_stream.proofs.AskingLaws.{near_first, near_next}
 
 apart-more : (search search' near near' : ℕ → Type 0) (n m : ℕ) (ps : List ℕ) → ((p : ℕ) → search p → search' p) → ((p : ℕ) → near p → near' p) → n ≤ m → AreApart search near n ps → AreApart search' near' m ps
 unfolding AreApart
@@ -31,12 +30,6 @@ near-apart : (search near : ℕ → Type 0) (n : ℕ) (ps : List ℕ) → AllByR
 unfolding AreApart
 near-apart search near n [] all few = tt
 near-apart search near n (p ∷ ps) all few = inr (omega (arith, few), all.0, near-apart search near (n - 1) ps all.1 (omega (arith, few)))
-
-near_first : (low mid high p : ℕ) → low ≤ mid → mid ≤ high → InSpan low (mid - low) p → InSpan low (high - low) p
-near_first low mid high p below above f = (f.0, let h = f.1 in grind (arith, nat_tests))
-
-near_next : (low mid high p : ℕ) → low ≤ mid → mid ≤ high → InSpan mid (high - mid) p → InSpan low (high - low) p
-near_next low mid high p below above f = let g = f.0 in let h = f.1 in (omega (arith, g, below), grind (arith, nat_tests))
 
 -- one call after another
 pub apart_on : (search search' search'' : ℕ → Type 0) (low mid high : ℕ) (a b c : SourceView) → ((p : ℕ) → search p → search'' p) → ((p : ℕ) → search' p → search'' p) → low ≤ mid → mid ≤ high

@@ -1,17 +1,15 @@
 -- From the chunk of a record to the record.
-use Rattle.std.specs.Prelude.{◌≡◌, ℕ, ◌+◌, ◌-◌, ◌*◌, ◌%◌, ◌<◌, ◌≤◌, List, Option, Some, None, IfSome, Result, Ok, Err}
-use Rattle.std.proofs.Common.{refl, sym, subst, ap, ◌∙◌, arith}
-use Rattle.e57_base.specs.Count.{rose_before}
+use Rattle.std.specs.Prelude.{◌≡◌, ℕ, ◌-◌, ◌<◌, ◌≤◌, List, None, IfSome, Err}
+use Rattle.std.proofs.Common.{refl, sym, subst, ◌∙◌, arith}
+use Rattle.e57_base.proofs.CountLaws.{rose_before}
 use Rattle.e57_base.specs.Source.{SourceView}
-use Rattle.e57_base.specs.Told.{told_map, told_both, told_here}
-use Rattle.e57_base.specs.declared.fault.Fault.{Fault}
+use Rattle.e57_base.proofs.Told.{told_map, told_both, told_here}
 use Rattle.e57_base.specs.declared.fault.ReadFault.{ReadFault}
 use Rattle.e57_base.specs.declared.fault.ReadFault.TheVariants.{Refused, Source}
-use Rattle.e57_layout.specs.Values.{ItemKind, strings}
-use Rattle.e57_sections.specs.Met.{OnWalk, lacks_item}
-use Rattle.e57_sections.specs.PathItem.{constant_of}
+use Rattle.e57_layout.specs.Values.{strings}
+use Rattle.e57_cloud.specs.PathItem.{constant_of}
 use Rattle.e57_stream.specs.Asking.{AsksMet}
-use Rattle.e57_stream.specs.AskingLaws.{asks_met_map, asks_met_on}
+use Rattle.e57_stream.proofs.AskingLaws.{asks_met_map, asks_met_on}
 use Rattle.e57_stream.specs.Reading.{IsMet, chunk_item}
 use Rattle.e57_stream.specs.Standing.{chunk_at}
 use Rattle.e57_stream.specs.declared.bytestream.Bytestream.{Bytestream}
@@ -22,15 +20,14 @@ use Rattle.e57_column.specs.declared.state.Items.{Items}
 use Rattle.e57_column.specs.declared.state.Place.{Place}
 use Rattle.e57_column.specs.declared.state.Place.TheVariants.{Nowhere, Inside}
 use Rattle.e57_column.specs.declared.state.State.{State}
-use Rattle.e57_column.specs.Finding.{FinderStands, IsFinder, IsIn, AreIn, IsLedTo, OnSearch}
-use Rattle.e57_column.specs.Column.{kind_of, leaf_of, column_item, column_length, AreItems, IsRead, IsInside, IsColumn, IsReadOf, IsChunkOf, StandsIn}
+use Rattle.e57_column.specs.Finding.{FinderStands, AreIn, IsLedTo}
+use Rattle.e57_column.specs.Column.{kind_of, leaf_of, column_item, column_length, IsColumn, IsReadOf, StandsIn}
 use Rattle.e57_column.specs.Reading.{SameField, OnRecords, AsksRecords, IsCause, HasNoLength, SeeksNot, OnCounts, AreOfChunk, StaysIn}
 use Rattle.e57_column.specs.Going.{KeepsChunk, Enters, OnSkip, Skips, IsSkipCause, IsSkipLength, SkipsNot, GoesTo}
 use Rattle.e57_column.specs.Asking.{AsksApart}
 use Rattle.e57_column.proofs.Apart.{apart_on, apart_near}
-use Rattle.e57_column.proofs.Finders.{told_all}
-use Rattle.e57_column.proofs.Ways.{item_of-in, length_of-in, search-item, walk-item}
-use Rattle.e57_column.proofs.Entering.{records-met, start-low}
+use Rattle.e57_column.proofs.Ways.{item_of-in, length_of-in, walk-item}
+use Rattle.e57_column.proofs.Entering.{records-met}
 
 -- the column in this chunk
 abbrev pub at_chunk : State → Chunk → Finder → State

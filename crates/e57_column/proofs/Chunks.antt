@@ -1,32 +1,29 @@
 -- Items of one chunk are records of the column.
-use Rattle.std.specs.Prelude.{◌≡◌, ℕ, ◌+◌, ◌-◌, ◌<◌, ◌≤◌, ◌||◌, min, true, List, Option, Some, None, IfSome, Result, Ok, Err}
+use Rattle.std.specs.Prelude.{◌≡◌, ℕ, ◌+◌, ◌-◌, ◌<◌, ◌≤◌, true, List, Some, None, IfSome, Ok, Err}
 use Rattle.std.proofs.Common.{refl, sym, subst, ap, ◌∙◌, arith}
-use Rattle.e57_base.specs.Count.{rose_before, Rose}
+use Rattle.e57_base.proofs.CountLaws.{rose_before}
+use Rattle.e57_base.specs.Count.{Rose}
 use Rattle.e57_base.specs.Source.{SourceView}
-use Rattle.e57_base.specs.Told.{told_map, told_both, told_here}
-use Rattle.e57_base.specs.declared.fault.Fault.{Fault}
+use Rattle.e57_base.proofs.Told.{told_map, told_both, told_here, told_all}
 use Rattle.e57_base.specs.declared.fault.ReadFault.{ReadFault}
 use Rattle.e57_base.specs.declared.fault.ReadFault.TheVariants.{Refused, Source}
-use Rattle.e57_layout.specs.Values.{ItemKind, integers, words, strings, Value}
-use Rattle.e57_sections.specs.PathItem.{constant_of}
+use Rattle.e57_layout.specs.Values.{ItemKind, Value}
+use Rattle.e57_cloud.specs.PathItem.{constant_of}
 use Rattle.e57_stream.specs.Asking.{AsksMet, AsksNear}
-use Rattle.e57_stream.specs.AskingLaws.{asks_met_map, asks_met_on}
-use Rattle.e57_stream.specs.Reading.{IsMet, chunk_item, ReadsItems, IsItemCause, StopsAt}
-use Rattle.e57_stream.specs.Standing.{chunk_at}
+use Rattle.e57_stream.proofs.AskingLaws.{asks_met_map, asks_met_on}
+use Rattle.e57_stream.specs.Reading.{IsMet, chunk_item}
 use Rattle.e57_stream.specs.declared.bytestream.Bytestream.{Bytestream}
 use Rattle.e57_stream.specs.declared.chunk.Chunk.{Chunk}
 use Rattle.e57_column.specs.declared.finder.Finder.{Finder}
 use Rattle.e57_column.specs.declared.state.Place.TheVariants.{Nowhere, Inside}
 use Rattle.e57_column.specs.declared.state.State.{State}
-use Rattle.e57_column.specs.Finding.{IsFinder, IsIn, AreIn, IsLedTo, is_column_kind}
-use Rattle.e57_column.specs.Column.{kind_of, leaf_of, placed, column_item, IsRead, IsInside, IsColumn, IsReadOf, IsChunkOf, StandsIn}
-use Rattle.e57_column.specs.Asking.{AsksApart}
-use Rattle.e57_column.specs.Reading.{SameField, OnRecords, AsksRecords, IsCause, StandsAt, OnCounts, AreOfChunk, StaysIn, ReadsRecords, StopsRecords}
+use Rattle.e57_column.specs.Finding.{IsIn, is_column_kind}
+use Rattle.e57_column.specs.Column.{kind_of, leaf_of, column_item, IsRead, IsColumn, IsReadOf, IsChunkOf, StandsIn}
+use Rattle.e57_column.specs.Reading.{OnRecords, AsksRecords, IsCause, OnCounts, AreOfChunk, StaysIn, ReadsRecords, StopsRecords}
 use Rattle.e57_column.specs.Going.{GoesTo}
 use Rattle.e57_column.proofs.Apart.{apart_on, apart_near}
-use Rattle.e57_column.proofs.Finders.{told_all}
 use Rattle.e57_column.proofs.Ways.{item_of-in, walk-item}
-use Rattle.e57_column.proofs.Entering.{start-low, at-high, sound-inside}
+use Rattle.e57_column.proofs.Entering.{start-low, sound-inside}
 use Rattle.e57_column.proofs.Arriving.{at_chunk, at_nowhere, state-is}
 
 -- Of the chunk's records from the next one on n were read, and m were read or looked at.

@@ -1,46 +1,44 @@
 -- The chunk of a record: the column stands in it, or it is found.
-use Rattle.std.specs.Prelude.{◌≡◌, ℕ, zero, suc, ◌+◌, ◌-◌, ◌*◌, ◌%◌, ◌<◌, ◌≤◌, ◌==◌, ◌⊎◌, ◌&&◌, nat_le, min, Bool, true, false, List, [], ◌∷◌, length, Option, Some, None, IfSome, IsSomeAnd, Result, Ok, Err}
+use Rattle.std.specs.Prelude.{◌≡◌, ℕ, ◌+◌, ◌-◌, ◌<◌, ◌≤◌, ◌==◌, ◌⊎◌, ◌&&◌, nat_le, true, false, List, [], ◌∷◌, length, None, IfSome, Result, Ok, Err}
 use Rattle.std.specs.List.{AllByRecursion}
 use Rattle.std.specs.Result.{IsOkAnd}
 use Rattle.std.proofs.Common.{refl, sym, subst, ap, ◌∙◌, arith, inl, inr, ⊎_elim}
 use Rattle.std.proofs.lemmas.Bool.{cases_Bool, cond-true, cond-false, and_parts, cases_lt, leb-true, le-leb, eqb-true, eq-eqb}
 use Rattle.e57_base.specs.Source.{SourceView}
-use Rattle.e57_base.specs.Told.{told_map, told_both}
+use Rattle.e57_base.proofs.Told.{told_map, told_both, told_all}
 use Rattle.e57_base.specs.declared.fault.Fault.{Fault}
 use Rattle.e57_base.specs.declared.fault.ReadFault.{ReadFault}
 use Rattle.e57_base.specs.declared.fault.ReadFault.TheVariants.{Refused, Source}
-use Rattle.e57_page.specs.PagesLaws.{asks_for_none}
 use Rattle.e57_layout.specs.Values.{ItemKind, integers, words, strings}
 use Rattle.e57_layout.specs.Widths.{width}
 use Rattle.e57_layout.specs.Strings.{after_strings}
 use Rattle.e57_layout.specs.declared.section.Section.{Section}
-use Rattle.e57_sections.specs.Chunks.{data_packets, stream_of}
-use Rattle.e57_sections.specs.Met.{InSpan}
-use Rattle.e57_sections.specs.PathItem.{ChunkAt, path, chunk_at as chunk_of_record, constant_of}
-use Rattle.e57_sections.specs.Laws.Fronts.{front-none}
-use Rattle.e57_sections.specs.Laws.Pieces.{data-none, by_chunk-none}
+use Rattle.e57_cloud.specs.Chunks.{stream_of}
+use Rattle.e57_cloud.specs.Met.{InSpan}
+use Rattle.e57_cloud.specs.PathItem.{ChunkAt, path, chunk_at as chunk_of_record, constant_of}
+use Rattle.e57_cloud.proofs.Laws.Fronts.{front-none}
+use Rattle.e57_cloud.proofs.Laws.Pieces.{data-none, by_chunk-none}
 use Rattle.e57_section.specs.Opening.{LiesIn, most_records}
 use Rattle.e57_index.specs.Finding.{chunk_of}
-use Rattle.e57_index.specs.Laws.Onward.{path_onward}
+use Rattle.e57_index.proofs.Laws.Onward.{path_onward}
 use Rattle.e57_index.specs.declared.cursor.Found.{Found}
 use Rattle.e57_stream.specs.Asking.{AsksMet}
-use Rattle.e57_stream.specs.AskingLaws.{asks_met_none, asks_met_map}
-use Rattle.e57_stream.specs.Standing.{chunk_at, IsWithin, HasTaken, Stands}
+use Rattle.e57_stream.proofs.AskingLaws.{asks_met_none, asks_met_map}
+use Rattle.e57_stream.specs.Standing.{chunk_at, HasTaken, Stands}
 use Rattle.e57_stream.specs.declared.bytestream.Bytestream.{Bytestream}
 use Rattle.e57_stream.specs.declared.chunk.Chunk.{Chunk}
-use Rattle.e57_texts.specs.Standing.{IsWithinText, StandsText}
 use Rattle.e57_column.specs.declared.finder.Finder.{Finder}
 use Rattle.e57_column.specs.declared.state.Place.{Place}
 use Rattle.e57_column.specs.declared.state.Place.TheVariants.{Nowhere, Outside, Inside}
 use Rattle.e57_column.specs.declared.state.State.{State}
-use Rattle.e57_column.specs.Finding.{FinderStands, IsFinder, IsIn, AreIn, IsLedTo, OnCount, OnSearch, Finds, IsFindCause, FindsNot}
+use Rattle.e57_column.specs.Finding.{FinderStands, IsFinder, IsIn, AreIn, IsLedTo, OnSearch, Finds, IsFindCause, FindsNot}
 use Rattle.e57_column.specs.Column.{kind_of, leaf_of, column_item, column_length, IsRead, IsInside, IsPlaced, IsColumn, IsReadOf, IsChunkOf, StandsIn}
-use Rattle.e57_column.specs.Asking.{AreApart, AsksApart}
-use Rattle.e57_column.specs.Reading.{SameField, KeepsStanding, OnRecords, AsksRecords, IsCause, HasNoLength, SeeksNot, OnCounts, AreOfChunk}
+use Rattle.e57_column.specs.Asking.{AsksApart}
+use Rattle.e57_column.specs.Reading.{OnRecords, AsksRecords, IsCause, HasNoLength, SeeksNot, OnCounts, AreOfChunk}
 use Rattle.e57_column.specs.Going.{is_inside, has_record, is_same, raised, begun, entered, KeepsChunk, Enters}
 use Rattle.e57_column.proofs.Apart.{apart_none, apart_all}
-use Rattle.e57_column.proofs.Finders.{told_all, chunk_at-indexed}
 use Rattle.e57_column.proofs.Ways.{item_of-lost, length_of-lost, search-item}
+use Rattle.e57_cloud.proofs.Laws.Reached.{chunk_at-indexed}
 
 -- ---- what is known of a place
 

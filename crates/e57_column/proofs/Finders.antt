@@ -1,46 +1,35 @@
 -- What each finder finds.
-use Rattle.std.specs.Prelude.{◌≡◌, ℕ, ◌+◌, ◌<◌, ◌≤◌, ◌==◌, ◌||◌, Bool, true, false, List, Option, Some, None, IfSome, IsSomeAnd, Result, Ok, Err, MatchResult}
+use Rattle.std.specs.Prelude.{◌≡◌, ℕ, ◌+◌, ◌<◌, ◌≤◌, ◌==◌, ◌||◌, Bool, true, false, List, Option, Some, None, IsSomeAnd, Result, Ok, Err, MatchResult}
 use Rattle.std.specs.List.{AllByRecursion}
 use Rattle.std.specs.Result.{IsOkAnd}
-use Rattle.std.proofs.Common.{refl, sym, subst, ap, ◌∙◌, arith, inl, inr}
+use Rattle.std.proofs.Common.{refl, sym, subst, ◌∙◌, arith, inl, inr}
 use Rattle.e57_base.specs.Source.{SourceView}
-use Rattle.e57_base.specs.Told.{told_map}
+use Rattle.e57_base.proofs.Told.{told_map, told_all}
 use Rattle.e57_base.specs.declared.fault.Fault.{Fault}
 use Rattle.e57_base.specs.declared.fault.ReadFault.{ReadFault}
 use Rattle.e57_base.specs.declared.fault.ReadFault.TheVariants.{Refused, Source}
 use Rattle.e57_base.specs.declared.kind.Kind.{Kind}
 use Rattle.e57_layout.specs.declared.section.Section.{Section}
 use Rattle.e57_layout.specs.declared.field.Fixed.{Fixed}
-use Rattle.e57_sections.specs.PathItem.{ChunkAt, path, chunk_at}
-use Rattle.e57_sections.specs.Met.{OnPath}
-use Rattle.e57_section.specs.Opening.{LiesIn}
-use Rattle.e57_section.specs.Steps.{is_packet_kind}
+use Rattle.e57_cloud.specs.PathItem.{ChunkAt, path, chunk_at}
+use Rattle.e57_cloud.specs.Met.{OnPath}
 use Rattle.e57_index.specs.Standing.{Cursor, StandsIn as CursorStands}
 use Rattle.e57_index.specs.Finding.{OnWay as OnIndexWay, AsksWay, chunk_of, FindsChunk, IsWayCause, LosesChunk}
 use Rattle.e57_index.specs.Reading.{is_index_kind}
 use Rattle.e57_index.specs.declared.cursor.Found.{Found}
 use Rattle.e57_ahead.specs.Counting.{Search, OnWay, StandsIn as CountStands}
-use Rattle.e57_ahead.specs.Finding.{AsksOf, is_restart_kind, is_found_kind, HasRecords, Finds as FindsCounted, IsFindCause as IsCountCause, FindsNot as FindsNotCounted}
+use Rattle.e57_ahead.specs.Finding.{AsksOf, is_found_kind, HasRecords, Finds as FindsCounted, IsFindCause as IsCountCause, FindsNot as FindsNotCounted}
 use Rattle.e57_ahead.specs.declared.reached.Covered.{Covered}
-use Rattle.e57_ahead.specs.declared.reached.Reached.{Reached}
 use Rattle.e57_stream.specs.Asking.{AsksMet}
 use Rattle.e57_stream.specs.Taking.{is_walk_kind}
 use Rattle.e57_stream.specs.Reading.{is_item_kind}
 use Rattle.e57_texts.specs.Reading.{is_limit_kind, is_text_kind}
-use Rattle.e57_stream.specs.AskingLaws.{asks_met_none, asks_met_map, all_map}
+use Rattle.e57_stream.proofs.AskingLaws.{asks_met_none}
 use Rattle.e57_stream.specs.declared.bytestream.Bytestream.{Bytestream}
 use Rattle.e57_column.specs.declared.finder.Finder.TheVariants.{ByIndex, ByCounting, OneChunk}
-use Rattle.e57_column.specs.Finding.{FinderStands, IsIn, AreIn, IsLedTo, OnCount, OnSearch, is_column_kind, Finds, IsFindCause, FindsNot}
-
-pub told_all : (P : List ℕ → Type 0) (held : Option (List ℕ)) → ((file : List ℕ) → P file) → IfSome held P
-told_all P None each = tt
-told_all P (Some file) each = each file
-
--- with an index the chunk of a record is that of the path
-pub chunk_at-indexed : (file : List ℕ) (s : Section) (fixed : Option Fixed) (i : ℕ) → (s.index == 0) ≡ false → chunk_at file s fixed i ≡ path file s i
-unfolding chunk_at
-chunk_at-indexed file s None i indexed = refl
-chunk_at-indexed file s (Some fixed) i indexed = rw indexed refl
+use Rattle.e57_column.specs.Finding.{FinderStands, AreIn, IsLedTo, OnCount, OnSearch, is_column_kind, Finds, IsFindCause, FindsNot}
+use Rattle.e57_cloud.proofs.Laws.Reached.{chunk_at-indexed}
+use Rattle.e57_base.proofs.Lists.{all_map}
 
 -- ---- by the index
 

@@ -1,26 +1,23 @@
 -- Integers of one chunk, and integers of which only one value is possible.
-use Rattle.std.specs.Prelude.{◌≡◌, ℕ, ◌+◌, ◌-◌, ◌<◌, ◌≤◌, ◌≤ℤ◌, ◌==◌, ◌⊎◌, min, Bool, true, false, if◌then◌else◌, ℤ, pos, List, length, take, drop, replicate, ◌++◌, get_or, slice_index_or, Option, Some, None, IfSome, IsSome, IsOk, Result, Ok, Err}
+use Rattle.std.specs.Prelude.{◌≡◌, ℕ, ◌+◌, ◌-◌, ◌<◌, ◌≤◌, ◌==◌, ◌⊎◌, min, true, false, ℤ, pos, List, length, take, drop, replicate, ◌++◌, get_or, Some, None, IsSome, IsOk, Result, Ok, Err}
 use Rattle.std.specs.Result.{IsOkAnd}
 use Rattle.std.proofs.Common.{refl, sym, subst, ap, ◌∙◌, arith, inl, inr, ⊎_elim}
-use Rattle.std.proofs.Common.{get_or-take}
 use Rattle.std.proofs.lemmas.Bool.{cases_Bool, eqb-true}
 use Rattle.std.proofs.lemmas.List.{length-take, length-replicate, get_or-replicate, get_or_append_left}
 use Rattle.e57_base.specs.Source.{SourceView}
-use Rattle.e57_base.specs.Told.{told_map, told_both, told_here}
+use Rattle.e57_base.proofs.Told.{told_map, told_all}
 use Rattle.e57_base.specs.declared.fault.Fault.{Fault}
 use Rattle.e57_base.specs.declared.fault.ReadFault.{ReadFault}
 use Rattle.e57_base.specs.declared.fault.ReadFault.TheVariants.{Refused, Source}
-use Rattle.e57_layout.specs.Values.{ItemKind, integers, words, strings, Value, whole}
+use Rattle.e57_layout.specs.Values.{integers, strings, Value, whole}
 use Rattle.e57_layout.specs.Widths.{width}
-use Rattle.e57_layout.specs.declared.section.Section.{Section}
-use Rattle.e57_sections.specs.PathItem.{ChunkAt, and_then, path, chunk_at, constant_of, item_by, item_of}
-use Rattle.e57_section.specs.Opening.{LiesIn}
+use Rattle.e57_cloud.specs.PathItem.{ChunkAt, and_then, path, chunk_at, constant_of, item_of}
 use Rattle.e57_index.specs.declared.cursor.Found.{Found}
 use Rattle.e57_stream.specs.Asking.{AsksMet}
-use Rattle.e57_stream.specs.AskingLaws.{asks_met_none, asks_met_map}
-use Rattle.e57_stream.specs.Integers.{IsRange, kind_of as kind_of_range, whole_at, FillsIntegers, ReadsIntegers, StopsIntegers}
-use Rattle.e57_stream.specs.Reading.{IsMet, IsOf, IsItemCause, ReadsItems, StopsAt}
-use Rattle.e57_stream.specs.Standing.{wanted as wanted_here, IsWithin}
+use Rattle.e57_stream.proofs.AskingLaws.{asks_met_none, asks_met_map}
+use Rattle.e57_stream.specs.Integers.{kind_of as kind_of_range, whole_at, FillsIntegers, ReadsIntegers, StopsIntegers}
+use Rattle.e57_stream.specs.Reading.{IsMet, IsOf, IsItemCause}
+use Rattle.e57_stream.specs.Standing.{wanted as wanted_here}
 use Rattle.e57_stream.specs.declared.bytestream.Bytestream.{Bytestream}
 use Rattle.e57_stream.specs.declared.bytestream.Integers.{Integers}
 use Rattle.e57_stream.specs.declared.chunk.Chunk.{Chunk}
@@ -31,13 +28,13 @@ use Rattle.e57_column.specs.declared.state.Place.{Place}
 use Rattle.e57_column.specs.declared.state.Place.TheVariants.{Nowhere, Outside, Inside}
 use Rattle.e57_column.specs.declared.state.State.{State}
 use Rattle.e57_column.specs.Finding.{IsFinder, FinderStands, AreIn, OnSearch, Finds, IsFindCause, FindsNot}
-use Rattle.e57_column.specs.Column.{kind_of, leaf_of, placed_at, placed, column_item, column_length, AreItems as AreSound, IsRead, IsInside, IsPlaced, IsColumn, StandsIn}
-use Rattle.e57_column.specs.Reading.{SameField, OnRecords, AsksRecords, IsCause, StandsAt, AreOfChunk, StaysIn, HasNoLength, SeeksNot, ReadsRecords, StopsRecords, KeepsRest, IsLimited, AreLimited, ReadsInto, StopsInto}
+use Rattle.e57_column.specs.Column.{kind_of, placed_at, placed, column_item, column_length, IsPlaced, IsColumn, StandsIn}
+use Rattle.e57_column.specs.Reading.{OnRecords, AsksRecords, IsCause, AreOfChunk, StaysIn, HasNoLength, SeeksNot, ReadsRecords, KeepsRest, IsLimited, AreLimited, ReadsInto, StopsInto}
 use Rattle.e57_column.specs.Going.{GoesTo, FindsPaths}
-use Rattle.e57_column.proofs.Finders.{told_all, item_kind, chunk_at-indexed}
-use Rattle.e57_column.proofs.Parts.{behind_front, length_front}
-use Rattle.e57_column.proofs.Entering.{sound-inside}
-use Rattle.e57_column.proofs.Chunks.{ReadsChunk, IsChunkCause, StopsChunk, Reads, reads_one, Stops, stops_one}
+use Rattle.e57_column.proofs.Finders.{item_kind}
+use Rattle.e57_column.proofs.Chunks.{ReadsChunk, IsChunkCause, StopsChunk, reads_one, stops_one}
+use Rattle.e57_cloud.proofs.Laws.Reached.{chunk_at-indexed}
+use Rattle.e57_stream.proofs.Parts.{behind_front, length_front}
 
 -- ---- what the items are
 

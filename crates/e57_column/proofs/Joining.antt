@@ -1,40 +1,38 @@
 -- Reads of a column in a row.
-use Rattle.std.specs.Prelude.{◌≡◌, ℕ, ◌+◌, ◌-◌, ◌<◌, ◌≤◌, List, length, take, drop, get_or, Option, Some, None, IfSome, IsSome, Ok, Err}
+use Rattle.std.specs.Prelude.{◌≡◌, ℕ, ◌+◌, ◌-◌, ◌<◌, ◌≤◌, List, length, take, drop, get_or, Some, IfSome, IsSome, Ok, Err}
 use Rattle.std.proofs.Common.{refl, sym, subst, ap, ◌∙◌, arith, ⊎_elim}
 use Rattle.std.proofs.lemmas.Bool.{cases_lt}
 use Rattle.std.proofs.lemmas.Option.{same_Some}
-use Rattle.e57_base.specs.Count.{rose_before}
+use Rattle.e57_base.proofs.CountLaws.{rose_before}
 use Rattle.e57_base.specs.Source.{SourceView}
-use Rattle.e57_base.specs.Told.{told_map, told_both, told_here}
+use Rattle.e57_base.proofs.Told.{told_map, told_both, told_here, told_all}
 use Rattle.e57_base.specs.declared.fault.ReadFault.{ReadFault}
 use Rattle.e57_base.specs.declared.fault.ReadFault.TheVariants.{Refused, Source}
 use Rattle.e57_layout.specs.Values.{ItemKind, Value}
-use Rattle.e57_sections.specs.Met.{OnItem}
-use Rattle.e57_sections.specs.PathItem.{constant_of}
-use Rattle.e57_stream.specs.AskingLaws.{asks_met_none, asks_met_map, asks_met_on}
+use Rattle.e57_cloud.specs.PathItem.{constant_of}
+use Rattle.e57_stream.proofs.AskingLaws.{asks_met_none, asks_met_map, asks_met_on}
 use Rattle.e57_stream.specs.declared.bytestream.Bytestream.{Bytestream}
 use Rattle.e57_column.specs.declared.state.Items.{Items}
 use Rattle.e57_column.specs.declared.state.Place.{Place}
 use Rattle.e57_column.specs.declared.state.Place.TheVariants.{Nowhere, Outside, Inside}
 use Rattle.e57_column.specs.declared.state.State.{State}
-use Rattle.e57_column.specs.Finding.{IsIn, AreIn}
-use Rattle.e57_column.specs.Column.{kind_of, leaf_of, placed_at, placed, column_item, StandsIn}
+use Rattle.e57_column.specs.Finding.{IsIn}
+use Rattle.e57_column.specs.Column.{kind_of, placed_at, placed, column_item, StandsIn}
 use Rattle.e57_column.specs.Reading.{SameField, KeepsStanding, OnRecords, AsksRecords, IsCause, StandsAt, OnCounts, StaysIn, AreOfChunk, ReadsRecords, StopsRecords, KeepsRest, IsLimited, AreLimited, ReadsInto, StopsInto}
 use Rattle.e57_column.proofs.Apart.{apart_on, apart_none}
-use Rattle.e57_column.proofs.Finders.{told_all}
 use Rattle.e57_column.proofs.Chunks.{fewer-of}
-use Rattle.e57_column.proofs.Parts.{part_before, part_in, length-part, length_of_part, rest_on}
 use borrow.Rule.Slice.PartMut.{put_mid}
+use Rattle.e57_stream.proofs.Parts.{part_before, part_in, length-part, length_of_part, rest_on}
 
 -- ---- the field is the same
 
 pub field-on : (a b c : State) → SameField a b → SameField b c → SameField a c
 field-on a b c f g = record { stream = g.stream ∙ f.stream; items = g.items ∙ f.items }
 
-same-item : (file : List ℕ) (a b : State) (i : ℕ) → SameField a b → column_item file b i ≡ column_item file a i
+pub same-item : (file : List ℕ) (a b : State) (i : ℕ) → SameField a b → column_item file b i ≡ column_item file a i
 same-item file a b i same = rw (same.stream, same.items) refl
 
-same-records : (file : List ℕ) (a b : State) (x n p : ℕ) → SameField a b → OnRecords file b x n p → OnRecords file a x n p
+pub same-records : (file : List ℕ) (a b : State) (x n p : ℕ) → SameField a b → OnRecords file b x n p → OnRecords file a x n p
 same-records file a b x n p same on = record { i = on.i; after = on.after; before = on.before; way = rw (same.stream, same.items) at on.way }
 
 -- ---- two reads
@@ -74,7 +72,7 @@ told-items old mid first second a n m front back read same stands held same_fron
     (λ file. (StandsIn file first → (j : ℕ) → j < n → column_item file first (a + j) ≡ Ok (front j)) × (StandsIn file first → StandsIn file second)) old.held (λ file x y. (x, y)) f stands)
     (told_here (λ file. StandsIn file second → (j : ℕ) → j < m → column_item file second (a + n + j) ≡ Ok (back j)) mid.held old.held (sym held) g)
 
-stands-on : (old mid : SourceView) (first second third : State) → mid.held ≡ old.held → KeepsStanding old first second → KeepsStanding mid second third → KeepsStanding old first third
+pub stands-on : (old mid : SourceView) (first second third : State) → mid.held ≡ old.held → KeepsStanding old first second → KeepsStanding mid second third → KeepsStanding old first third
 stands-on old mid first second third held f g =
     told_both (λ file. StandsIn file first → StandsIn file second) (λ file. StandsIn file second → StandsIn file third) (λ file. StandsIn file first → StandsIn file third) old.held (λ file x y is. y (x is)) f
     (told_here (λ file. StandsIn file second → StandsIn file third) mid.held old.held (sym held) g)

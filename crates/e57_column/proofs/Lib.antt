@@ -1,10 +1,10 @@
+pub mod CloudLaws
 pub mod Finders
 pub mod Ways
 pub mod Apart
 pub mod Entering
 pub mod Arriving
 pub mod Skipping
-pub mod Parts
 pub mod Chunks
 pub mod Joining
 pub mod Integers

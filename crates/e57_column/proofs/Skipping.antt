@@ -1,29 +1,25 @@
 -- Skipping in a chunk of numbers.
-use Rattle.std.specs.Prelude.{◌≡◌, ℕ, ◌+◌, ◌-◌, ◌*◌, ◌/◌, ◌%◌, ◌^◌, ◌<◌, ◌≤◌, ◌||◌, ℤ, Bool, true, List, IfSome, Result, Ok, Err, MatchResult}
-use Rattle.std.proofs.Common.{refl, sym, subst, ap, ◌∙◌, arith}
-use Rattle.std.proofs.Math.Nat.{mul-le-mul_left}
+use Rattle.std.specs.Prelude.{◌≡◌, ℕ, ◌+◌, ◌-◌, ◌*◌, ◌/◌, ◌%◌, ◌<◌, ◌≤◌, ℤ, List, Result, Ok, Err, MatchResult}
+use Rattle.std.proofs.Common.{refl, arith}
 use Rattle.std.proofs.lemmas.Nat.{mul-le}
 use Rattle.e57_base.specs.Source.{SourceView}
-use Rattle.e57_base.specs.Told.{told_map}
+use Rattle.e57_base.proofs.Told.{told_map, told_all}
 use Rattle.e57_base.specs.declared.fault.ReadFault.{ReadFault}
 use Rattle.e57_base.specs.declared.fault.ReadFault.TheVariants.{Refused, Source}
-use Rattle.e57_base.specs.declared.kind.Kind.{Kind}
-use Rattle.e57_layout.specs.Values.{ItemKind, integers, words, strings}
+use Rattle.e57_layout.specs.Values.{integers, words, strings}
 use Rattle.e57_layout.specs.Widths.{width}
 use Rattle.e57_layout.specs.declared.section.Section.{Section}
 use Rattle.e57_section.specs.Opening.{most_records}
-use Rattle.e57_stream.specs.AskingLaws.{asks_met_none, asks_met_map, asks_near_none}
+use Rattle.e57_stream.proofs.AskingLaws.{asks_met_none, asks_met_map, asks_near_none}
 use Rattle.e57_stream.specs.Asking.{AsksMet}
-use Rattle.e57_stream.specs.Taking.{is_walk_kind}
-use Rattle.e57_stream.specs.Reading.{is_item_kind}
 use Rattle.e57_stream.specs.Standing.{IsWithin, Stands}
 use Rattle.e57_stream.specs.declared.bytestream.Bytestream.{Bytestream}
 use Rattle.e57_stream.specs.declared.chunk.Chunk.{Chunk}
 use Rattle.e57_texts.specs.Standing.{StandsText}
-use Rattle.e57_texts.specs.Reading.{chunk_length, is_limit_kind, is_text_kind, OnWay, IsTextCause, IsLengthCause, SkipsStrings, StopsSkipping}
+use Rattle.e57_texts.specs.Reading.{chunk_length, OnWay, IsTextCause, IsLengthCause, SkipsStrings, StopsSkipping}
 use Rattle.e57_column.specs.Column.{IsRead, IsReadOf}
 use Rattle.e57_column.specs.Going.{moved_to, OnSkip, Skips, IsSkipCause, IsSkipLength, SkipsNot}
-use Rattle.e57_column.proofs.Finders.{told_all, text_kind}
+use Rattle.e57_column.proofs.Finders.{text_kind}
 
 -- the bits up to a later record
 pub bits-on : (w start at i : ℕ) → start ≤ at → at ≤ i → w * (at - start) + w * (i - at) ≡ w * (i - start)

@@ -1,41 +1,38 @@
 -- Strings over the chunks.
-use Rattle.std.specs.Prelude.{◌≡◌, ℕ, zero, suc, ◌+◌, ◌-◌, ◌^◌, ◌<◌, ◌≤◌, ◌==◌, ◌⊎◌, min, if◌then◌else◌, List, [], ◌∷◌, ◌++◌, length, take, drop, get_or, Option, Some, None, IfSome, Result, Ok, Err}
+use Rattle.std.specs.Prelude.{◌≡◌, ℕ, zero, suc, ◌+◌, ◌-◌, ◌<◌, ◌≤◌, ◌⊎◌, min, List, length, take, drop, Option, Some, None, IfSome, Result, Ok, Err}
 use Rattle.std.proofs.Common.{refl, sym, subst, ap, ap₂, ◌∙◌, arith, inl, inr, ⊎_elim}
 use Rattle.std.proofs.lemmas.Bool.{cases_lt}
-use Rattle.std.proofs.lemmas.List.{length-take, length-drop, take-append-le, drop-append-le, take-append-drop}
+use Rattle.std.proofs.lemmas.List.{length-take, take-append-drop}
 use Rattle.e57_base.specs.Source.{SourceView}
-use Rattle.e57_base.specs.Told.{told_map, told_both, told_here}
+use Rattle.e57_base.proofs.Told.{told_map, told_both, told_here, told_all}
 use Rattle.e57_base.specs.declared.fault.Fault.{Fault}
 use Rattle.e57_base.specs.declared.fault.ReadFault.{ReadFault}
 use Rattle.e57_base.specs.declared.fault.ReadFault.TheVariants.{Refused, Source}
 use Rattle.e57_layout.specs.Values.{ItemKind, strings, Value, word, octets}
 use Rattle.e57_layout.specs.Strings.{string_limit}
-use Rattle.e57_sections.specs.PathItem.{constant_of}
-use Rattle.e57_stream.specs.Asking.{AsksMet}
-use Rattle.e57_stream.specs.Reading.{IsMet}
+use Rattle.e57_cloud.specs.PathItem.{constant_of}
 use Rattle.e57_stream.specs.Standing.{wanted as wanted_here}
 use Rattle.e57_stream.specs.Window.{held_bytes}
 use Rattle.e57_stream.specs.declared.bytestream.Bytestream.{Bytestream}
 use Rattle.e57_stream.specs.declared.chunk.Chunk.{Chunk}
 use Rattle.e57_texts.specs.Standing.{StandsText}
-use Rattle.e57_texts.specs.Reading.{chunk_length, begin_of, end_of, text_of, FillsTexts, ReadsTexts as ReadsHere, looked_at, IsNext, ReadsStrings, IsTextCause, IsFitting as FitsHere, StopsStrings}
+use Rattle.e57_texts.specs.Reading.{chunk_length, begin_of, end_of, string_held, FillsTexts, ReadsTexts as ReadsHere, looked_at, IsNext, ReadsStrings, IsTextCause, IsFitting as FitsHere, StopsStrings}
 use Rattle.e57_column.specs.declared.finder.Finder.{Finder}
-use Rattle.e57_column.specs.declared.state.Items.{Items}
 use Rattle.e57_column.specs.declared.state.Items.TheVariants.{Strings}
-use Rattle.e57_column.specs.declared.state.Place.TheVariants.{Nowhere, Inside}
+use Rattle.e57_column.specs.declared.state.Place.TheVariants.{Nowhere}
 use Rattle.e57_column.specs.declared.state.State.{State}
-use Rattle.e57_column.specs.declared.texts.TextsRead.{TextsRead}
 use Rattle.e57_column.specs.Column.{kind_of, leaf_of, placed, column_item, column_length, IsColumn, IsChunkOf, StandsIn}
-use Rattle.e57_column.specs.Reading.{SameField, KeepsStanding, IsCause, HasNoLength, SeeksNot, ReadsRecords, StopsRecords, StopsInto}
-use Rattle.e57_column.specs.Texts.{TooLong, left_over, Leaves, ReadsTexts, IsFitting, StopsTexts, IsLeft, ReadsSome, StopsSome}
+use Rattle.e57_column.specs.Reading.{SameField, KeepsStanding, IsCause, HasNoLength, SeeksNot, ReadsRecords, StopsRecords}
+use Rattle.e57_column.specs.Texts.{TooLong, left_over, ReadsTexts, IsFitting, StopsTexts, IsLeft, ReadsSome, StopsSome}
 use Rattle.e57_column.specs.Going.{GoesTo}
-use Rattle.e57_column.proofs.Finders.{told_all, text_kind}
+use Rattle.e57_column.proofs.Finders.{text_kind}
 use Rattle.e57_column.proofs.Ways.{length_of-in}
-use Rattle.e57_column.proofs.Parts.{part_before, part_in, length-part, length_of_part, rest_on}
 use Rattle.e57_column.proofs.Arriving.{at_chunk, state-is}
-use Rattle.e57_column.proofs.Chunks.{ReadsChunk, IsChunkCause, StopsChunk, came-in, Reads, reads_one, Stops, stops_one}
+use Rattle.e57_column.proofs.Chunks.{ReadsChunk, IsChunkCause, StopsChunk, came-in, reads_one, stops_one}
 use Rattle.e57_column.proofs.Joining.{reads_on, stops_on, reads_nothing}
 use borrow.Rule.Slice.PartMut.{put_mid}
+use Rattle.e57_texts.proofs.Filling.{held_inside, ends_rise}
+use Rattle.e57_stream.proofs.Parts.{part_before, part_in, length-part, length_of_part, rest_on}
 
 -- ---- strings of a chunk
 
@@ -105,12 +102,12 @@ reads-strings old mid new before c filled count next bytes bytes' ends ends' chu
     let few = next-few mid c.stream c.chunk (wanted_here c.chunk (length ends)) count (length bytes' - begin_of filled ends' count) next r.why in
     let here : kind_of before.items ≡ strings = ap kind_of is in
     let there : kind_of c.items ≡ strings = ap kind_of goes.same.items ∙ here in
-    let read = subst (λ (k : ItemKind). ReadsChunk mid c.stream k c.chunk count (looked_at count next) (λ j. octets (text_of filled bytes' ends' j)) chunk' new) (sym there) (strings-chunk mid new c.stream c.chunk chunk' count (looked_at count next) (text_of filled bytes' ends') r.reads) in
+    let read = subst (λ (k : ItemKind). ReadsChunk mid c.stream k c.chunk count (looked_at count next) (λ j. octets (string_held filled bytes' ends' j)) chunk' new) (sym there) (strings-chunk mid new c.stream c.chunk chunk' count (looked_at count next) (string_held filled bytes' ends') r.reads) in
     let varies = subst (λ (k : ItemKind). constant_of k ≡ None) (sym here) refl in
     record {
       few = omega (arith, few);
       fills = r.fills;
-      reads = (reads_one old mid new before c count (looked_at count next) chunk' (λ j. octets (text_of filled bytes' ends' j)) varies looked.0 looked.1 (omega (arith, most, high, at)) column goes read).reads;
+      reads = (reads_one old mid new before c count (looked_at count next) chunk' (λ j. octets (string_held filled bytes' ends' j)) varies looked.0 looked.1 (omega (arith, most, high, at)) column goes read).reads;
       why = left-in old mid before c (wanted_here c.chunk (length ends)) (length ends) count (length bytes' - begin_of filled ends' count) next want (omega arith) (omega (arith, high, at)) here goes r.why;
     }
 
@@ -124,8 +121,8 @@ reads-strings-column old mid new before c filled count next bytes bytes' ends en
     let most = looked.2 in
     let here : kind_of before.items ≡ strings = ap kind_of is in
     let there : kind_of c.items ≡ strings = ap kind_of goes.same.items ∙ here in
-    let read = subst (λ (k : ItemKind). ReadsChunk mid c.stream k c.chunk count (looked_at count next) (λ j. octets (text_of filled bytes' ends' j)) chunk' new) (sym there) (strings-chunk mid new c.stream c.chunk chunk' count (looked_at count next) (text_of filled bytes' ends') r.reads) in
-    (reads_one old mid new before c count (looked_at count next) chunk' (λ j. octets (text_of filled bytes' ends' j)) (subst (λ (k : ItemKind). constant_of k ≡ None) (sym here) refl) looked.0 looked.1 (omega (arith, most, high, at)) column goes read).column
+    let read = subst (λ (k : ItemKind). ReadsChunk mid c.stream k c.chunk count (looked_at count next) (λ j. octets (string_held filled bytes' ends' j)) chunk' new) (sym there) (strings-chunk mid new c.stream c.chunk chunk' count (looked_at count next) (string_held filled bytes' ends') r.reads) in
+    (reads_one old mid new before c count (looked_at count next) chunk' (λ j. octets (string_held filled bytes' ends' j)) (subst (λ (k : ItemKind). constant_of k ≡ None) (sym here) refl) looked.0 looked.1 (omega (arith, most, high, at)) column goes read).column
 
 fits-chunk : (old mid : SourceView) (before : State) (done left : ℕ) (chunk : Chunk) (f : Finder) (found : ReadFault) → chunk.at + done < chunk.until → GoesTo old before before.chunk.at mid (at_chunk before chunk f) → kind_of before.items ≡ strings
     → FitsHere mid before.stream chunk (chunk.at + done) left found → IsFitting old before (before.chunk.at + done) left found
@@ -156,9 +153,9 @@ stops-strings old mid new before c filled done found bytes bytes' ends ends' chu
     let below = s.below in
     let here : kind_of before.items ≡ strings = ap kind_of is in
     let there : kind_of c.items ≡ strings = ap kind_of goes.same.items ∙ here in
-    let stop = subst (λ (k : ItemKind). StopsChunk mid c.stream k c.chunk (length ends) done found (λ j. octets (text_of filled bytes' ends' j)) new) (sym there)
+    let stop = subst (λ (k : ItemKind). StopsChunk mid c.stream k c.chunk (length ends) done found (λ j. octets (string_held filled bytes' ends' j)) new) (sym there)
     (record { below = omega (arith, below); met = s.met; items = s.items; cause = strings-cause mid new c.stream c.chunk (c.chunk.at + done) found s.cause }) in
-    record { fills = s.fills; stops = (stops_one old mid new before c (length ends) done chunk' found (λ j. octets (text_of filled bytes' ends' j)) (subst (λ (k : ItemKind). constant_of k ≡ None) (sym here) refl) (omega (arith, below, high, at)) column goes stop).stops; fits = fits-in old mid before c done (length bytes' - begin_of filled ends' done) found (omega (arith, below, high, at)) here goes s.fits }
+    record { fills = s.fills; stops = (stops_one old mid new before c (length ends) done chunk' found (λ j. octets (string_held filled bytes' ends' j)) (subst (λ (k : ItemKind). constant_of k ≡ None) (sym here) refl) (omega (arith, below, high, at)) column goes stop).stops; fits = fits-in old mid before c done (length bytes' - begin_of filled ends' done) found (omega (arith, below, high, at)) here goes s.fits }
 
 -- no string yet
 pub fills-none : (filled : ℕ) (bytes ends : List ℕ) → FillsTexts filled 0 bytes bytes ends ends
@@ -189,19 +186,12 @@ stops-at-first old new before after filled want found bytes ends kind some s = r
     is_at = s.is_at;
     same = s.same;
     met = s.met;
-    items = told_all (λ file. StandsIn file before → (j : ℕ) → j < 0 → column_item file before (before.chunk.at + j) ≡ Ok (octets (text_of filled bytes ends j))) old.held (λ file is j below. absurd (omega (arith, below)));
+    items = told_all (λ file. StandsIn file before → (j : ℕ) → j < 0 → column_item file before (before.chunk.at + j) ≡ Ok (octets (string_held filled bytes ends j))) old.held (λ file is j below. absurd (omega (arith, below)));
     stands = s.stands;
     cause = let none : before.chunk.at ≡ before.chunk.at + 0 = omega arith in subst (λ (i : ℕ). IsCause old before i found new) none s.cause;
   };
   fits = let none : before.chunk.at ≡ before.chunk.at + 0 = omega arith in fits-lost old before before.chunk.at (before.chunk.at + 0) (length bytes - begin_of filled ends 0) found none (ap kind_of kind) s.length;
 }
-
--- ---- the buffers
-
-held_inside : (front part : List ℕ) (begin end : ℕ) → begin ≤ end → end ≤ length front → held_bytes (front ++ part) begin end ≡ held_bytes front begin end
-held_inside front part begin end order inside =
-    let size = length-drop begin front in
-    ap (take (end - begin)) (drop-append-le begin front part (omega (arith, order, inside))) ∙ take-append-le (end - begin) (drop begin front) part (omega (arith, size, inside, order))
 
 -- bytes behind a part don't matter for it
 held_same : (bytes bytes' : List ℕ) (begin end at : ℕ) → begin ≤ end → end ≤ at → at ≤ length bytes → length bytes' ≡ length bytes → take at bytes' ≡ take at bytes → held_bytes bytes' begin end ≡ held_bytes bytes begin end
@@ -213,17 +203,6 @@ held_same bytes bytes' begin end at order below room same_length same =
     ∙ ap (λ (xs : List ℕ). held_bytes xs begin end) same
     ∙ sym (held_inside (take at bytes) (drop at bytes) begin end order (omega (arith, size, below, room)))
     ∙ ap (λ (xs : List ℕ). held_bytes xs begin end) (take-append-drop at bytes)
-
-ends_rise : (filled : ℕ) (ends : List ℕ) (n : ℕ) → ((j : ℕ) → j < n → begin_of filled ends j ≤ end_of ends j) → (j : ℕ) → j < n → end_of ends j ≤ begin_of filled ends n
-ends_rise filled ends zero order j below = absurd (omega (arith, below))
-ends_rise filled ends (suc n) order j below =
-    ⊎_elim
-    (λ (early : j < n).
-    let before = ends_rise filled ends n (λ k less. order k (omega (arith, less))) j early in
-    let last : begin_of filled ends n ≤ end_of ends n = order n (omega arith) in
-    omega (arith, before, last))
-    (λ (late : n ≤ j). let e : n ≡ j = omega (arith, late, below) in subst (λ (k : ℕ). end_of ends k ≤ end_of ends n) e (omega arith))
-    (cases_lt j n)
 
 -- the last end is within the bytes
 pub begin-within : (filled : ℕ) (ends : List ℕ) (n size : ℕ) → filled ≤ size → ((j : ℕ) → j < n → end_of ends j ≤ size) → begin_of filled ends n ≤ size
@@ -280,7 +259,7 @@ fills-join want n m at bytes0 bytes1 bytes2 ends0 ends1 part part' p =
       same_ends = length-part ends1 part' n (want - n) (omega (arith, few, room)) (p.back.same_ends ∙ length_of_part ends1 part want n few room p.is) ∙ p.front.same_ends;
     }
 
-text-early : (want n m at : ℕ) (bytes0 bytes1 bytes2 ends0 ends1 part part' : List ℕ) → Parts want n m at bytes0 bytes1 bytes2 ends0 ends1 part part' → (j : ℕ) → j < n → text_of 0 bytes1 ends1 j ≡ text_of 0 bytes2 (joined want n ends1 part') j
+text-early : (want n m at : ℕ) (bytes0 bytes1 bytes2 ends0 ends1 part part' : List ℕ) → Parts want n m at bytes0 bytes1 bytes2 ends0 ends1 part part' → (j : ℕ) → j < n → string_held 0 bytes1 ends1 j ≡ string_held 0 bytes2 (joined want n ends1 part') j
 text-early want n m at bytes0 bytes1 bytes2 ends0 ends1 part part' p j below =
     let few = p.few in
     let room = p.room in
@@ -290,7 +269,7 @@ text-early want n m at bytes0 bytes1 bytes2 ends0 ends1 part part' p j below =
     sym (ap₂ (λ (x y : ℕ). held_bytes bytes2 x y) (begin-early want n j ends1 part' begin (omega (arith, below))) (part_before ends1 part' n (want - n) j 0 begin below)
     ∙ held_same bytes1 bytes2 (begin_of 0 ends1 j) (end_of ends1 j) at (p.front.order j below) (omega (arith, risen, begins)) p.within p.back.same_bytes p.back.before)
 
-text-late : (want n m at : ℕ) (bytes0 bytes1 bytes2 ends0 ends1 part part' : List ℕ) → Parts want n m at bytes0 bytes1 bytes2 ends0 ends1 part part' → (i : ℕ) → i < m → text_of at bytes2 part' i ≡ text_of 0 bytes2 (joined want n ends1 part') (n + i)
+text-late : (want n m at : ℕ) (bytes0 bytes1 bytes2 ends0 ends1 part part' : List ℕ) → Parts want n m at bytes0 bytes1 bytes2 ends0 ends1 part part' → (i : ℕ) → i < m → string_held at bytes2 part' i ≡ string_held 0 bytes2 (joined want n ends1 part') (n + i)
 text-late want n m at bytes0 bytes1 bytes2 ends0 ends1 part part' p i below =
     let few = p.few in
     let room = p.room in
@@ -305,10 +284,10 @@ pub record Row (old : SourceView) (before : State) (n at : ℕ) (bytes bytes' en
   pub fills : FillsTexts 0 n bytes bytes' ends ends'
   pub begins : at ≡ begin_of 0 ends' n
   pub within : at ≤ length bytes'
-  pub reads : ReadsRecords old before before.chunk.at n n (λ j. octets (text_of 0 bytes' ends' j)) new after
+  pub reads : ReadsRecords old before before.chunk.at n n (λ j. octets (string_held 0 bytes' ends' j)) new after
 
 pub row_none : (source : SourceView) (c : State) (bytes ends : List ℕ) → placed c ≡ Some c.chunk.at → Row source c 0 0 bytes bytes ends ends source c
-row_none source c bytes ends at = record { fills = fills-none 0 bytes ends; begins = refl; within = omega arith; reads = reads_nothing source c c.chunk.at (λ j. octets (text_of 0 bytes ends j)) at }
+row_none source c bytes ends at = record { fills = fills-none 0 bytes ends; begins = refl; within = omega arith; reads = reads_nothing source c c.chunk.at (λ j. octets (string_held 0 bytes ends j)) at }
 
 parts-of : (s0 s1 s2 : SourceView) (first second third : State) (want n m at : ℕ) (next : Option ℕ) (bytes0 bytes1 bytes2 ends0 ends1 part part' : List ℕ) → n ≤ want → want ≤ length ends1 → part ≡ take (want - n) (drop n ends1) → m ≤ length part
     → Row s0 first n at bytes0 bytes1 ends0 ends1 s1 second → FillsTexts at m bytes1 bytes2 part part' → Parts want n m at bytes0 bytes1 bytes2 ends0 ends1 part part'
@@ -317,13 +296,13 @@ parts-of s0 s1 s2 first second third want n m at next bytes0 bytes1 bytes2 ends0
 -- some strings, and then some more
 pub row-reads : (s0 s1 s2 : SourceView) (first second third : State) (want n m at : ℕ) (next : Option ℕ) (bytes0 bytes1 bytes2 ends0 ends1 part part' : List ℕ) → n ≤ want → want ≤ length ends1 → part ≡ take (want - n) (drop n ends1) → 0 < looked_at m next → second.chunk.at ≡ first.chunk.at + n
     → Row s0 first n at bytes0 bytes1 ends0 ends1 s1 second → ReadsSome s1 second at m next bytes1 bytes2 part part' s2 third
-    → FillsTexts 0 (n + m) bytes0 bytes2 ends0 (joined want n ends1 part') × ReadsRecords s0 first first.chunk.at (n + m) (n + looked_at m next) (λ j. octets (text_of 0 bytes2 (joined want n ends1 part') j)) s2 third
+    → FillsTexts 0 (n + m) bytes0 bytes2 ends0 (joined want n ends1 part') × ReadsRecords s0 first first.chunk.at (n + m) (n + looked_at m next) (λ j. octets (string_held 0 bytes2 (joined want n ends1 part') j)) s2 third
 row-reads s0 s1 s2 first second third want n m at next bytes0 bytes1 bytes2 ends0 ends1 part part' few room is some place row r =
     let p = parts-of s0 s1 s2 first second third want n m at next bytes0 bytes1 bytes2 ends0 ends1 part part' few room is r.few row r.fills in (
       fills-join want n m at bytes0 bytes1 bytes2 ends0 ends1 part part' p,
-      reads_on s0 s1 s2 first second third first.chunk.at n m (looked_at m next) (λ j. octets (text_of 0 bytes1 ends1 j)) (λ j. octets (text_of at bytes2 part' j)) (λ j. octets (text_of 0 bytes2 (joined want n ends1 part') j)) some
+      reads_on s0 s1 s2 first second third first.chunk.at n m (looked_at m next) (λ j. octets (string_held 0 bytes1 ends1 j)) (λ j. octets (string_held at bytes2 part' j)) (λ j. octets (string_held 0 bytes2 (joined want n ends1 part') j)) some
           (λ j early. ap octets (text-early want n m at bytes0 bytes1 bytes2 ends0 ends1 part part' p j early)) (λ i below. ap octets (text-late want n m at bytes0 bytes1 bytes2 ends0 ends1 part part' p i below))
-          row.reads (subst (λ (a : ℕ). ReadsRecords s1 second a m (looked_at m next) (λ j. octets (text_of at bytes2 part' j)) s2 third) place r.reads),
+          row.reads (subst (λ (a : ℕ). ReadsRecords s1 second a m (looked_at m next) (λ j. octets (string_held at bytes2 part' j)) s2 third) place r.reads),
     )
 
 -- all of a chunk
@@ -356,7 +335,7 @@ row_left s0 s1 s2 first second third want n m at k bytes0 bytes1 bytes2 ends0 en
     let held = row.reads.met.asks.same.held in
     record {
       fills = both.0;
-      reads = subst (λ (q : ℕ). ReadsRecords s0 first first.chunk.at (n + m) q (λ j. octets (text_of 0 bytes2 (joined want n ends1 part') j)) s2 third) looked both.1;
+      reads = subst (λ (q : ℕ). ReadsRecords s0 first first.chunk.at (n + m) q (λ j. octets (string_held 0 bytes2 (joined want n ends1 part') j)) s2 third) looked both.1;
       why = inr (record {
         n = k;
         fewer = omega (arith, below, size);
@@ -382,7 +361,7 @@ row_left s0 s1 s2 first second third want n m at k bytes0 bytes1 bytes2 ends0 en
 pub row_all : (s0 s1 : SourceView) (first second : State) (want n at : ℕ) (bytes0 bytes1 ends0 ends1 : List ℕ) → n ≡ want → Row s0 first n at bytes0 bytes1 ends0 ends1 s1 second → ReadsTexts s0 first want (record { count = n; need = None }) bytes0 bytes1 ends0 ends1 s1 second
 row_all s0 s1 first second want n at bytes0 bytes1 ends0 ends1 all row =
     let looked : n ≡ min (n + 1) want = omega (arith, all) in
-    record { fills = row.fills; reads = subst (λ (q : ℕ). ReadsRecords s0 first first.chunk.at n q (λ j. octets (text_of 0 bytes1 ends1 j)) s1 second) looked row.reads; why = inl (all, refl) }
+    record { fills = row.fills; reads = subst (λ (q : ℕ). ReadsRecords s0 first first.chunk.at n q (λ j. octets (string_held 0 bytes1 ends1 j)) s1 second) looked row.reads; why = inl (all, refl) }
 
 fits-on : (s0 s1 : SourceView) (first second : State) (n m left left' : ℕ) (found : ReadFault) → second.chunk.at ≡ first.chunk.at + n → left ≡ left' → s1.held ≡ s0.held → SameField first second → KeepsStanding s0 first second
     → IsFitting s1 second (second.chunk.at + m) left found → IsFitting s0 first (first.chunk.at + (n + m)) left' found
@@ -410,9 +389,9 @@ row_stops s0 s1 s2 first second third want n m at found bytes0 bytes1 bytes2 end
     let p = parts-of s0 s1 s2 first second third want n m at None bytes0 bytes1 bytes2 ends0 ends1 part part' few room is (omega (arith, below)) row s.fills in
     record {
       fills = fills-join want n m at bytes0 bytes1 bytes2 ends0 ends1 part part' p;
-      stops = stops_on s0 s1 s2 first second third first.chunk.at want n m found (λ j. octets (text_of 0 bytes1 ends1 j)) (λ j. octets (text_of at bytes2 part' j)) (λ j. octets (text_of 0 bytes2 (joined want n ends1 part') j))
+      stops = stops_on s0 s1 s2 first second third first.chunk.at want n m found (λ j. octets (string_held 0 bytes1 ends1 j)) (λ j. octets (string_held at bytes2 part' j)) (λ j. octets (string_held 0 bytes2 (joined want n ends1 part') j))
           (λ j early. ap octets (text-early want n m at bytes0 bytes1 bytes2 ends0 ends1 part part' p j early)) (λ i less. ap octets (text-late want n m at bytes0 bytes1 bytes2 ends0 ends1 part part' p i less))
-          row.reads (subst (λ (a : ℕ). StopsRecords s1 second a (want - n) m found (λ j. octets (text_of at bytes2 part' j)) s2 third) place (subst (λ (k : ℕ). StopsRecords s1 second second.chunk.at k m found (λ j. octets (text_of at bytes2 part' j)) s2 third) size s.stops));
+          row.reads (subst (λ (a : ℕ). StopsRecords s1 second a (want - n) m found (λ j. octets (string_held at bytes2 part' j)) s2 third) place (subst (λ (k : ℕ). StopsRecords s1 second second.chunk.at k m found (λ j. octets (string_held at bytes2 part' j)) s2 third) size s.stops));
       fits = fits-on s0 s1 first second n m (length bytes2 - begin_of at part' m) (length bytes2 - begin_of 0 (joined want n ends1 part') (n + m)) found place
           (ap (λ (k : ℕ). length bytes2 - k) (sym (begin-late want n at m ends1 part' (omega (arith, few, room)) row.begins p.most))) row.reads.met.asks.same.held row.reads.same row.reads.stands s.fits;
     }

@@ -1,25 +1,24 @@
 -- An item of a chunk is the column's, and a page on the way to it is one on the way to the column's.
-use Rattle.std.specs.Prelude.{◌≡◌, ℕ, zero, suc, ◌+◌, ◌-◌, ◌<◌, ◌≤◌, ◌==◌, ◌≢◌, ◌⊎◌, ◌&&◌, min, not, Bool, true, false, if◌then◌else◌, List, Option, Some, None, is_none, IsSomeAnd, Result, Ok, Err}
+use Rattle.std.specs.Prelude.{◌≡◌, ℕ, zero, suc, ◌+◌, ◌-◌, ◌==◌, ◌⊎◌, ◌&&◌, min, not, Bool, true, false, if◌then◌else◌, List, Option, Some, None, is_none, IsSomeAnd, Result, Ok, Err}
 use Rattle.std.specs.Result.{IsOkAnd}
-use Rattle.std.proofs.Common.{refl, sym, subst, ap, ◌∙◌, arith, inl, inr, ⊎_elim}
+use Rattle.std.proofs.Common.{refl, sym, subst, inl, inr, ⊎_elim}
 use Rattle.std.proofs.lemmas.Bool.{cases_Bool, eqb-true, eqb-false}
 use Rattle.e57_base.specs.Fault.{fault}
 use Rattle.e57_base.specs.declared.fault.Fault.{Fault}
 use Rattle.e57_base.specs.declared.kind.Kind.TheVariants.{RestartUnindexed}
-use Rattle.e57_layout.specs.Values.{ItemKind, Value, Outcome}
+use Rattle.e57_layout.specs.Values.{ItemKind, Outcome}
 use Rattle.e57_layout.specs.Items.{item_at}
 use Rattle.e57_layout.specs.Strings.{string_length_at}
 use Rattle.e57_layout.specs.declared.section.Section.{Section}
 use Rattle.e57_layout.specs.declared.field.Fixed.{Fixed}
-use Rattle.e57_sections.specs.Section.{or_zero}
-use Rattle.e57_sections.specs.Walk.{Packet}
-use Rattle.e57_sections.specs.Chunks.{float_items}
-use Rattle.e57_sections.specs.Cloud.{Leaf}
-use Rattle.e57_sections.specs.PathItem.{ChunkAt, and_then, unless, path, Stretch, stretch, reaches_end, is_covered, covered, cover, chunk_at, item_in, constant_of, item_by, item_of, length_of}
-use Rattle.e57_sections.specs.Met.{OnPath, OnWalk, lacks_item, lacks_record, goes_on, OnCover, OnChunk, OnWalks, OnItem}
+use Rattle.e57_cloud.specs.Section.{or_zero}
+use Rattle.e57_cloud.specs.Chunks.{float_items}
+use Rattle.e57_cloud.specs.Cloud.{Leaf}
+use Rattle.e57_cloud.specs.PathItem.{ChunkAt, and_then, unless, path, Stretch, stretch, reaches_end, is_covered, covered, cover, chunk_at, item_in, constant_of, item_of, length_of}
+use Rattle.e57_cloud.specs.Met.{OnWalk, lacks_item, lacks_record, goes_on, OnCover, OnChunk, OnWalks, OnItem}
 use Rattle.e57_ahead.specs.Counting.{OnWay}
 use Rattle.e57_stream.specs.declared.bytestream.Bytestream.{Bytestream}
-use Rattle.e57_column.specs.Finding.{IsIn, OnCount, OnSearch}
+use Rattle.e57_column.specs.Finding.{IsIn, OnSearch}
 
 -- ---- the item of a record
 

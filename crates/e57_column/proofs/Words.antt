@@ -1,11 +1,11 @@
 -- Words of one chunk.
-use Rattle.std.specs.Prelude.{◌≡◌, ℕ, ◌+◌, ◌-◌, ◌<◌, ◌≤◌, ◌||◌, min, true, List, length, get_or, Option, None}
+use Rattle.std.specs.Prelude.{◌≡◌, ℕ, ◌+◌, ◌-◌, ◌<◌, ◌≤◌, min, List, length, None}
 use Rattle.std.proofs.Common.{refl, sym, subst, ap, ◌∙◌, arith}
 use Rattle.e57_base.specs.Source.{SourceView}
 use Rattle.e57_base.specs.declared.fault.ReadFault.{ReadFault}
 use Rattle.e57_base.specs.declared.fault.ReadFault.TheVariants.{Refused, Source}
-use Rattle.e57_layout.specs.Values.{ItemKind, words, Value, word}
-use Rattle.e57_sections.specs.PathItem.{constant_of}
+use Rattle.e57_layout.specs.Values.{ItemKind, words, word}
+use Rattle.e57_cloud.specs.PathItem.{constant_of}
 use Rattle.e57_stream.specs.Asking.{AsksMet}
 use Rattle.e57_stream.specs.Reading.{IsMet, IsOf, IsItemCause}
 use Rattle.e57_stream.specs.Standing.{wanted as wanted_here}
@@ -16,10 +16,10 @@ use Rattle.e57_column.specs.declared.state.Items.{Items}
 use Rattle.e57_column.specs.declared.state.Place.TheVariants.{Nowhere}
 use Rattle.e57_column.specs.declared.state.State.{State}
 use Rattle.e57_column.specs.Column.{kind_of, IsColumn}
-use Rattle.e57_column.specs.Reading.{KeepsRest, IsLimited, AreLimited, ReadsInto, StopsInto}
+use Rattle.e57_column.specs.Reading.{KeepsRest, AreLimited, ReadsInto, StopsInto}
 use Rattle.e57_column.specs.Going.{GoesTo}
 use Rattle.e57_column.proofs.Finders.{item_kind}
-use Rattle.e57_column.proofs.Chunks.{ReadsChunk, IsChunkCause, StopsChunk, Reads, reads_one, Stops, stops_one}
+use Rattle.e57_column.proofs.Chunks.{ReadsChunk, IsChunkCause, StopsChunk, reads_one, stops_one}
 
 words-chunk : (old new : SourceView) (b : Bytestream) (w : ℕ) (before after : Chunk) (n : ℕ) (out out' : List ℕ) → ReadsWords old b w before n n out out' after new → ReadsChunk old b (words w) before n n (word_at out') after new
 words-chunk old new b w before after n out out' r = record {

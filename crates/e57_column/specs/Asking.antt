@@ -2,7 +2,7 @@
 use Rattle.std.specs.Prelude.{ℕ, ◌-◌, ◌<◌, ◌⊎◌, List, [], ◌∷◌}
 use Rattle.e57_base.specs.Source.{SourceView}
 use Rattle.e57_page.specs.Pages.{AsksFor}
-use Rattle.e57_sections.specs.Met.{InSpan}
+use Rattle.e57_cloud.specs.Met.{InSpan}
 
 -- Of these pages at most n are near, and the others are of a search.
 unfoldable pub AreApart : (ℕ → Type 0) → (ℕ → Type 0) → ℕ → List ℕ → Type 0

@@ -1,11 +1,11 @@
 -- What a column keeps, and that it is of a file.
 use Rattle.std.specs.Prelude.{◌≡◌, ℕ, ◌-◌, ◌<◌, ◌≤◌, ◌≤ℤ◌, min, List, Option, Some, None, Result}
 use Rattle.e57_base.specs.declared.fault.Fault.{Fault}
-use Rattle.e57_layout.specs.Values.{ItemKind, integers, words, strings, Value, kind_width}
+use Rattle.e57_layout.specs.Values.{ItemKind, integers, words, strings, Value}
 use Rattle.e57_layout.specs.Widths.{width}
 use Rattle.e57_layout.specs.declared.section.Section.{Section}
-use Rattle.e57_sections.specs.Cloud.{Leaf}
-use Rattle.e57_sections.specs.PathItem.{constant_of, item_of, length_of}
+use Rattle.e57_cloud.specs.Cloud.{Leaf}
+use Rattle.e57_cloud.specs.PathItem.{constant_of, item_of, length_of}
 use Rattle.e57_stream.specs.Standing.{chunk_at, IsWithin, Stands}
 use Rattle.e57_stream.specs.declared.bytestream.Bytestream.{Bytestream}
 use Rattle.e57_stream.specs.declared.chunk.Chunk.{Chunk}

@@ -1,6 +1,6 @@
 -- The search for the chunk of a record: by the index, by counting the items of the first Float field, or, with neither,
 -- in the one chunk.
-use Rattle.std.specs.Prelude.{◌≡◌, ℕ, ◌+◌, ◌<◌, ◌≤◌, ◌≢◌, ◌⊎◌, ◌==◌, ◌||◌, Bool, true, false, List, Option, Some, None, IsSomeAnd, IfSome, Ok, Err}
+use Rattle.std.specs.Prelude.{◌≡◌, ℕ, ◌<◌, ◌≤◌, ◌⊎◌, ◌==◌, ◌||◌, Bool, true, false, List, Option, Some, None, IsSomeAnd, IfSome, Ok, Err}
 use Rattle.std.specs.Result.{IsOkAnd}
 use Rattle.e57_base.specs.Count.{Rose}
 use Rattle.e57_base.specs.Source.{SourceView}
@@ -9,8 +9,8 @@ use Rattle.e57_base.specs.declared.fault.ReadFault.TheVariants.{Refused, Source}
 use Rattle.e57_base.specs.declared.kind.Kind.{Kind}
 use Rattle.e57_layout.specs.declared.section.Section.{Section}
 use Rattle.e57_layout.specs.declared.field.Fixed.{Fixed}
-use Rattle.e57_sections.specs.PathItem.{ChunkAt, path, chunk_at}
-use Rattle.e57_sections.specs.Met.{OnPath}
+use Rattle.e57_cloud.specs.PathItem.{ChunkAt, path, chunk_at}
+use Rattle.e57_cloud.specs.Met.{OnPath}
 use Rattle.e57_index.specs.Standing.{StandsIn as CursorStands}
 use Rattle.e57_index.specs.Finding.{chunk_of}
 use Rattle.e57_index.specs.declared.cursor.Found.{Found}

@@ -4,8 +4,8 @@ use Rattle.e57_base.specs.Count.{Rose}
 use Rattle.e57_base.specs.Source.{SourceView}
 use Rattle.e57_base.specs.declared.fault.ReadFault.{ReadFault}
 use Rattle.e57_base.specs.declared.fault.ReadFault.TheVariants.{Refused, Source}
-use Rattle.e57_layout.specs.Values.{ItemKind, strings, kind_width}
-use Rattle.e57_sections.specs.PathItem.{path}
+use Rattle.e57_layout.specs.Values.{ItemKind, strings}
+use Rattle.e57_cloud.specs.PathItem.{path}
 use Rattle.e57_index.specs.declared.cursor.Found.{Found}
 use Rattle.e57_stream.specs.Asking.{AsksMet, AsksNear}
 use Rattle.e57_stream.specs.Reading.{IsMet, chunk_item}

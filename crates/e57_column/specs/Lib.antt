@@ -4,4 +4,3 @@ pub mod Asking
 pub mod Reading
 pub mod Texts
 pub mod Going
-pub mod CloudLaws

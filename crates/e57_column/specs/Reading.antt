@@ -8,8 +8,8 @@ use Rattle.e57_layout.specs.Values.{ItemKind, item_kind, integers, words, string
 use Rattle.e57_layout.specs.declared.field.Field.{Field}
 use Rattle.e57_layout.specs.declared.field.Fixed.{Fixed}
 use Rattle.e57_layout.specs.declared.section.Section.{Section}
-use Rattle.e57_sections.specs.Met.{OnItem}
-use Rattle.e57_sections.specs.PathItem.{constant_of}
+use Rattle.e57_cloud.specs.Met.{OnItem}
+use Rattle.e57_cloud.specs.PathItem.{constant_of}
 use Rattle.e57_stream.specs.Asking.{AsksMet}
 use Rattle.e57_stream.specs.declared.bytestream.Bytestream.{Bytestream}
 use Rattle.e57_column.specs.declared.state.Place.TheVariants.{Inside}

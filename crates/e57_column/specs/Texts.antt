@@ -5,7 +5,7 @@ use Rattle.e57_base.specs.declared.fault.ReadFault.{ReadFault}
 use Rattle.e57_base.specs.declared.fault.ReadFault.TheVariants.{Refused, Source}
 use Rattle.e57_layout.specs.Values.{word, octets}
 use Rattle.e57_layout.specs.Strings.{string_limit}
-use Rattle.e57_texts.specs.Reading.{FillsTexts, begin_of, text_of, looked_at}
+use Rattle.e57_texts.specs.Reading.{FillsTexts, begin_of, string_held, looked_at}
 use Rattle.e57_column.specs.declared.state.State.{State}
 use Rattle.e57_column.specs.declared.texts.TextsRead.{TextsRead}
 use Rattle.e57_column.specs.Column.{column_length, StandsIn}
@@ -32,7 +32,7 @@ pub record Leaves (old : SourceView) (before : State) (want left : ℕ) (read : 
 -- wasn't read, it was looked at.
 pub record ReadsTexts (old : SourceView) (before : State) (want : ℕ) (read : TextsRead) (bytes bytes' ends ends' : List ℕ) (new : SourceView) (after : State) : Type 0 where
   pub fills : FillsTexts 0 read.count bytes bytes' ends ends'
-  pub reads : ReadsRecords old before before.chunk.at read.count (min (read.count + 1) want) (λ j. octets (text_of 0 bytes' ends' j)) new after
+  pub reads : ReadsRecords old before before.chunk.at read.count (min (read.count + 1) want) (λ j. octets (string_held 0 bytes' ends' j)) new after
   pub why : ((read.count ≡ want) × (read.need ≡ None)) ⊎ Leaves old before want (length bytes' - begin_of 0 ends' read.count) read
 
 -- where the string of record i was refused, and its length is known, it is at most `left`
@@ -44,7 +44,7 @@ IsFitting old c i left Source = Unit {0}
 -- fitted.
 pub record StopsTexts (old : SourceView) (before : State) (want done : ℕ) (found : ReadFault) (bytes bytes' ends ends' : List ℕ) (new : SourceView) (after : State) : Type 0 where
   pub fills : FillsTexts 0 done bytes bytes' ends ends'
-  pub stops : StopsRecords old before before.chunk.at want done found (λ j. octets (text_of 0 bytes' ends' j)) new after
+  pub stops : StopsRecords old before before.chunk.at want done found (λ j. octets (string_held 0 bytes' ends' j)) new after
   pub fits : IsFitting old before (before.chunk.at + done) (length bytes' - begin_of 0 ends' done) found
 
 -- ---- the strings of one chunk
@@ -58,10 +58,10 @@ IsLeft old before places count room (Some n) = (count < places) × TooLong old b
 pub record ReadsSome (old : SourceView) (before : State) (filled count : ℕ) (next : Option ℕ) (bytes bytes' ends ends' : List ℕ) (new : SourceView) (after : State) : Type 0 where
   pub few : count ≤ length ends
   pub fills : FillsTexts filled count bytes bytes' ends ends'
-  pub reads : ReadsRecords old before before.chunk.at count (looked_at count next) (λ j. octets (text_of filled bytes' ends' j)) new after
+  pub reads : ReadsRecords old before before.chunk.at count (looked_at count next) (λ j. octets (string_held filled bytes' ends' j)) new after
   pub why : IsLeft old before (length ends) count (length bytes' - begin_of filled ends' count) next
 
 pub record StopsSome (old : SourceView) (before : State) (filled want done : ℕ) (found : ReadFault) (bytes bytes' ends ends' : List ℕ) (new : SourceView) (after : State) : Type 0 where
   pub fills : FillsTexts filled done bytes bytes' ends ends'
-  pub stops : StopsRecords old before before.chunk.at want done found (λ j. octets (text_of filled bytes' ends' j)) new after
+  pub stops : StopsRecords old before before.chunk.at want done found (λ j. octets (string_held filled bytes' ends' j)) new after
   pub fits : IsFitting old before (before.chunk.at + done) (length bytes' - begin_of filled ends' done) found

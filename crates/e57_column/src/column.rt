@@ -5,7 +5,7 @@ ghost use Rattle.e57_base.specs.Source.{page_length};
 ghost use Rattle.e57_page.specs.Place.{payload_length};
 ghost use Rattle.e57_layout.specs.Values.{ItemKind, item_kind, IsValidField, whole, word};
 ghost use Rattle.e57_layout.specs.Widths.{width as the_width};
-ghost use Rattle.e57_sections.specs.PathItem.{constant_of};
+ghost use Rattle.e57_cloud.specs.PathItem.{constant_of};
 ghost use Rattle.e57_section.specs.Opening.{LiesIn};
 ghost use Rattle.e57_ahead.specs.Counting.{IsWidth};
 ghost use Rattle.e57_column.specs.Finding.{IsFinder, FinderStands};

@@ -3,7 +3,7 @@
 ghost use Rattle.std.specs.Prelude.{◌≡◌, ◌+◌, ◌-◌, ◌*◌, ◌/◌, ◌<◌, ◌≤◌, None, MatchResult};
 ghost use Rattle.e57_base.specs.Source.{page_length};
 ghost use Rattle.e57_page.specs.Place.{payload_length};
-ghost use Rattle.e57_sections.specs.PathItem.{constant_of};
+ghost use Rattle.e57_cloud.specs.PathItem.{constant_of};
 ghost use Rattle.e57_section.specs.Opening.{LiesIn, most_records};
 ghost use Rattle.e57_column.specs.Column.{kind_of, AreItems, IsRead, IsColumn};
 ghost use Rattle.e57_column.specs.Reading.{SeeksNot};

@@ -4,7 +4,7 @@ ghost use Rattle.std.specs.Prelude.{◌≡◌, ◌+◌, ◌*◌, ◌/◌, ◌<�
 ghost use Rattle.e57_base.specs.Source.{page_length};
 ghost use Rattle.e57_page.specs.Place.{payload_length};
 ghost use Rattle.e57_layout.specs.Values.{whole};
-ghost use Rattle.e57_sections.specs.PathItem.{constant_of};
+ghost use Rattle.e57_cloud.specs.PathItem.{constant_of};
 ghost use Rattle.e57_section.specs.Opening.{LiesIn};
 ghost use Rattle.e57_column.specs.Finding.{IsFinder, FindsNot};
 ghost use Rattle.e57_column.specs.Column.{kind_of, IsColumn, placed, wanted as the_wanted};

@@ -4,7 +4,7 @@ use Rattle.std.specs.Prelude.{encode_utf8, codes, IsUtf8}
 use Rattle.std.specs.List.{AllByRecursion, flat_map, list_all}
 use Rattle.std.specs.Str.{IsAscii}
 use Rattle.std.proofs.lemmas.List.{append-nil}
-use Rattle.std.proofs.lemmas.Bool.{ltb-true}
+use Rattle.std.proofs.lemmas.Bool.{ltb-true, and_parts}
 use Rattle.std.proofs.lemmas.Str.{IsUtf8-from_ascii}
 use Rattle.e57_pieces.specs.declared.piece.Attr.{Attr}
 use Rattle.e57_pieces.specs.declared.piece.Piece.{Piece}
@@ -12,9 +12,9 @@ use Rattle.e57_pieces.specs.declared.piece.Piece.TheVariants.{Start, Empty, End,
 use Rattle.e57_pieces.specs.Characters.{between, is_character, AreCharacters}
 use Rattle.e57_pieces.specs.Words.{is_space, is_plain, is_decimal, is_hexadecimal, Each, IsName}
 use Rattle.e57_pieces.specs.Grammar.{IsNumbered, IsReference, IsPart, Means, IsAttr, AreAttrs, differ, IsInside, IsTag, IsCData, IsPiece}
-use Rattle.e57_pieces.specs.Laws.Characters.{or_true, and_true, between_bounds, AreCharacters-append, AreCharacters-nil, AreCharacters-parts, AreCharacters-before}
-use Rattle.e57_pieces.specs.Laws.References.{reference_begins}
-use Rattle.e57_pieces.specs.Laws.Attributes.{spaces}
+use Rattle.e57_pieces.proofs.Laws.Characters.{or_true, between_bounds, AreCharacters-append, AreCharacters-nil, AreCharacters-parts, AreCharacters-before}
+use Rattle.e57_pieces.proofs.Laws.References.{reference_begins}
+use Rattle.e57_pieces.proofs.Laws.Attributes.{spaces}
 use Rattle.e57_elements.specs.Lawful.{IsLawfulAttr}
 
 -- ---- ASCII, and cuts beside it
@@ -40,7 +40,7 @@ low_each p low (b ∷ bs) h = (low b h.0, low_each p low bs h.1)
 -- of bytes that are written out
 low_word : (bytes : List ℕ) → list_all (λ b. ltb b 128) bytes ≡ true → AreLow bytes
 low_word [] e = tt
-low_word (b ∷ bs) e = let h = and_true (ltb b 128) (list_all (λ c. ltb c 128) bs) e in (ltb-true b 128 h.0, low_word bs h.1)
+low_word (b ∷ bs) e = let h = and_parts (ltb b 128) (list_all (λ c. ltb c 128) bs) e in (ltb-true b 128 h.0, low_word bs h.1)
 
 space_low : (b : ℕ) → is_space b ≡ true → b < 128
 space_low b e = spaces (λ n. n < 128) b e (lit< tt) (lit< tt) (lit< tt) (lit< tt)

@@ -11,8 +11,9 @@ use Rattle.e57_elements.specs.Machine.{Open, State, reading, done, join, begin, 
 use Rattle.e57_elements.proofs.Within.{limit_none, limit_within}
 use Rattle.e57_elements.proofs.Nodes.{put_nodes}
 use Rattle.e57_elements.proofs.Runs.{run-append, run-none}
-use Rattle.e57_elements.proofs.Lists.{all-parts, all-joined}
+use Rattle.e57_elements.proofs.Lists.{all-parts}
 use Rattle.e57_elements.proofs.Steps.{Steps, by_steps}
+use Rattle.e57_base.proofs.Lists.{all_append}
 
 put_depth : (e : Element) (opens : List Open) → state_depth (put e opens) ≡ length opens
 put_depth e [] = refl
@@ -161,7 +162,7 @@ fitted = record {
         let n = f.count in
         let l = put_count (ended top) outer in
         let m = length-append (nodes_of outer) (open_node top ∷ preorder_all top.children) in
-        (record { attrs = all-joined FewAttrs (nodes_of outer) (open_node top ∷ preorder_all top.children) parts.0 parts.1; depth = omega arith; count = omega arith }, refl);
+        (record { attrs = all_append FewAttrs (nodes_of outer) (open_node top ∷ preorder_all top.children) parts.0 parts.1; depth = omega arith; count = omega arith }, refl);
   };
   comment = λ s. record { back = λ f. (f, refl) };
   cdata = λ text top outer. record { back = λ f. (record { attrs = f.attrs; depth = f.depth; count = f.count }, refl) };

@@ -1,6 +1,6 @@
 -- Bytes as they are written: what they mean, and that they are characters.
 use Rattle.std.proofs.Common.{◌≡◌, ℕ, ◌+◌, ◌/◌, ◌<◌, ◌≤◌, Bool, true, false, cond, not, ◌||◌, ◌&&◌, eqb, ltb, inl, inr, List, [], ◌∷◌, ◌++◌, codes, refl, sym, ap, subst, ◌∙◌, arith}
-use Rattle.std.proofs.lemmas.Bool.{eqb-true, ne_eqb, ltb-true}
+use Rattle.std.proofs.lemmas.Bool.{eqb-true, ne_eqb, ltb-true, and_parts}
 use Rattle.std.proofs.lemmas.List.{append-nil}
 use Rattle.std.proofs.lemmas.Str.{encode_ascii}
 use Rattle.std.specs.List.{AllByRecursion}
@@ -8,8 +8,8 @@ use lib.Utf8.{encode, encodes, next}
 use Rattle.e57_pieces.specs.Characters.{is_character, AreCharacters}
 use Rattle.e57_pieces.specs.Words.{is_decimal, is_plain, numeral, numeral_from}
 use Rattle.e57_pieces.specs.Grammar.{IsReference, IsPart, Means}
-use Rattle.e57_pieces.specs.Laws.Characters.{AreCharacters-append, AreCharacters-nil, tested, and_true}
-use Rattle.e57_pieces.specs.Laws.References.{Means-append, Means-nil, Means-part}
+use Rattle.e57_pieces.proofs.Laws.Characters.{AreCharacters-append, AreCharacters-nil, tested}
+use Rattle.e57_pieces.proofs.Laws.References.{Means-append, Means-nil, Means-part}
 use Rattle.e57_elements.specs.Spelling.{text_byte, value_byte, written}
 use Rattle.e57_elements.proofs.Writing.{written-append}
 
@@ -99,8 +99,8 @@ pub low_characters : (bytes : List ℕ) → are_low bytes ≡ true → AreCharac
 unfolding are_low
 low_characters [] h = AreCharacters-nil
 low_characters (b ∷ bs) h =
-    let both = and_true (ltb b 128 && is_character b) (are_low bs) h in
-    let first = and_true (ltb b 128) (is_character b) both.0 in
+    let both = and_parts (ltb b 128 && is_character b) (are_low bs) h in
+    let first = and_parts (ltb b 128) (is_character b) both.0 in
     let later = low_characters bs both.1 in
     record {
       numbers = b ∷ later.numbers;

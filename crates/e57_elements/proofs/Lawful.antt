@@ -4,7 +4,7 @@ use Rattle.std.specs.List.{AllByRecursion}
 use Rattle.e57_pieces.specs.declared.piece.Attr.{Attr}
 use Rattle.e57_pieces.specs.declared.piece.Piece.{Piece}
 use Rattle.e57_pieces.specs.Characters.{AreCharacters}
-use Rattle.e57_pieces.specs.Laws.Characters.{AreCharacters-append, AreCharacters-nil}
+use Rattle.e57_pieces.proofs.Laws.Characters.{AreCharacters-append, AreCharacters-nil}
 use Rattle.e57_elements.specs.Tree.{Element, element, Elements, none, more, preorder, preorder_all, depth}
 use Rattle.e57_elements.specs.Nested.{only_space, kept}
 use Rattle.e57_elements.specs.Lawful.{IsLawfulNode}
@@ -13,8 +13,9 @@ use Rattle.e57_elements.proofs.Within.{limit_within}
 use Rattle.e57_elements.proofs.Nodes.{put_nodes}
 use Rattle.e57_elements.proofs.Steps.{Steps, by_steps}
 use Rattle.e57_elements.proofs.Counts.{peak, peaks, put_peak}
-use Rattle.e57_elements.proofs.Lists.{all-parts, all-joined}
+use Rattle.e57_elements.proofs.Lists.{all-parts}
 use Rattle.e57_elements.proofs.Characters.{LawfulTag, LawfulPiece}
+use Rattle.e57_base.proofs.Lists.{all_append}
 
 abbrev pub TextsLawful : List Open → Type 0
 TextsLawful opens = AllByRecursion (λ (top : Open). AreCharacters top.text) opens
@@ -64,7 +65,7 @@ ended_lawful top h are =
 put_lawful : (e : Element) (opens : List Open) → AllByRecursion IsLawfulNode (nodes_of opens) → AllByRecursion IsLawfulNode (preorder e) → TextsLawful opens → max (peaks opens) (length opens + depth e) ≤ 64 → IsLawfulState (put e opens)
 put_lawful e opens nodes new texts deep =
     record {
-      nodes = subst (λ ns. AllByRecursion IsLawfulNode ns) (sym (put_nodes e opens)) (all-joined IsLawfulNode (nodes_of opens) (preorder e) nodes new);
+      nodes = subst (λ ns. AllByRecursion IsLawfulNode ns) (sym (put_nodes e opens)) (all_append IsLawfulNode (nodes_of opens) (preorder e) nodes new);
       texts = same_texts opens texts;
       not_deep = (let p = put_peak e opens in omega arith);
     } where
@@ -82,7 +83,7 @@ keeping = record {
         let w = limit_within (length attrs) (length opens + 1) (length (nodes_of opens) + 1) fits in
         let d = h.not_deep in
         let k = w.depth in
-        record { nodes = all-joined IsLawfulNode (nodes_of opens) (open_node (begin name attrs) ∷ []) h.nodes (tag_node name attrs 0 tag w.attrs, tt); texts = (AreCharacters-nil, h.texts); not_deep = omega arith };
+        record { nodes = all_append IsLawfulNode (nodes_of opens) (open_node (begin name attrs) ∷ []) h.nodes (tag_node name attrs 0 tag w.attrs, tt); texts = (AreCharacters-nil, h.texts); not_deep = omega arith };
   };
   empty = λ opens name attrs. record {
     on = λ h tag fits.

@@ -5,7 +5,7 @@ use Rattle.e57_base.specs.Fault.{fault}
 use Rattle.e57_base.specs.declared.kind.Kind.TheVariants as kind
 use Rattle.e57_pieces.specs.declared.piece.Piece.{Piece}
 use Rattle.e57_pieces.specs.Cut.{NoPiece, IsNext, IsFront}
-use Rattle.e57_pieces.specs.Laws.Cut.{IsFront-nil, IsFront-push}
+use Rattle.e57_pieces.proofs.Laws.Cut.{IsFront-nil, IsFront-push}
 use Rattle.e57_elements.specs.declared.tree.RawNode.{RawNode}
 use Rattle.e57_elements.specs.Limits.{max_elements}
 use Rattle.e57_elements.specs.Tree.{Element, preorder}

@@ -6,10 +6,6 @@ pub all-parts : {X : Type 0} (P : X → Type 0) (xs ys : List X) → AllByRecurs
 all-parts P [] ys h = (tt, h)
 all-parts P (x ∷ xs) ys h = let r = all-parts P xs ys h.1 in ((h.0, r.0), r.1)
 
-pub all-joined : {X : Type 0} (P : X → Type 0) (xs ys : List X) → AllByRecursion P xs → AllByRecursion P ys → AllByRecursion P (xs ++ ys)
-all-joined P [] ys f g = g
-all-joined P (x ∷ xs) ys f g = (f.0, all-joined P xs ys f.1 g)
-
 pub snoc_some : {X : Type 0} (xs : List X) (x : X) → [] ≡ xs ++ x ∷ [] → ⊥
 snoc_some [] x e = cc
 snoc_some (y ∷ xs) x e = cc

@@ -10,9 +10,10 @@ use Rattle.e57_elements.specs.Nested.{only_space}
 use Rattle.e57_elements.specs.Lawful.{IsLawfulAttr, IsLawfulNode, AreNodes}
 use Rattle.e57_elements.specs.Machine.{Open, State, reading, done, join, begin, with_child, put}
 use Rattle.e57_elements.specs.Making.{TreeSoFar, started, add_attr, set_text, set_size, IsInnermost, MayStart, MayAttr, MayText, begun_nodes, begun_places, made, MayHaveChild, AreBegun, IsMade, IsLawfulSoFar}
-use Rattle.e57_elements.proofs.Lists.{all-joined, snoc_same, snoc_some}
+use Rattle.e57_elements.proofs.Lists.{snoc_same, snoc_some}
 use Rattle.e57_elements.proofs.Nodes.{preorder_all-join}
 use Rattle.e57_elements.proofs.Elements.{length-preorder, size_some}
+use Rattle.e57_base.proofs.Lists.{all_append}
 
 abbrev pub so_far : List RawNode → List ℕ → TreeSoFar
 so_far nodes begun = record { nodes = nodes; begun = begun }
@@ -168,7 +169,7 @@ attr_keeps : (tree : TreeSoFar) (name value : List ℕ) (may : MayAttr tree name
 attr_keeps tree name value may h = record {
   is_name = h.is_name;
   name = h.name;
-  each = all-joined IsLawfulAttr may.node.attrs (record { name = name; value = value } ∷ []) h.each (record { is_name = may.is_name; name = may.characters; value = may.value_characters }, tt);
+  each = all_append IsLawfulAttr may.node.attrs (record { name = name; value = value } ∷ []) h.each (record { is_name = may.is_name; name = may.characters; value = may.value_characters }, tt);
   names_differ = may.names_differ;
   few_attrs = let l = length-append may.node.attrs ((record { name = name; value = value }) ∷ []) in let f = may.few in omega arith;
   text = h.text;
@@ -223,7 +224,7 @@ depth_all-join (more c cs) ds = let h = depth_all-join cs ds in omega arith
 with_child_lawful : (next : Open) (e : Element) → AllLawful (preorder (made next)) → (only_space next.text ≡ true → next.text ≡ []) → AllLawful (preorder e) → AllLawful (preorder (made (with_child e next)))
 with_child_lawful next e h may below = (
   record { is_name = h.0.is_name; name = h.0.name; each = h.0.each; names_differ = h.0.names_differ; few_attrs = h.0.few_attrs; text = h.0.text; no_space = λ size space. may space },
-  subst (λ ns. AllLawful ns) (sym (preorder_all-join next.children (more e none))) (all-joined IsLawfulNode (preorder_all next.children) (preorder_all (more e none)) h.1 (all-joined IsLawfulNode (preorder e) [] below tt)),
+  subst (λ ns. AllLawful ns) (sym (preorder_all-join next.children (more e none))) (all_append IsLawfulNode (preorder_all next.children) (preorder_all (more e none)) h.1 (all_append IsLawfulNode (preorder e) [] below tt)),
 )
 
 put_made : (top : Open) (outer : List Open) (places : List ℕ) (before : List RawNode) (node : RawNode) (below : List RawNode) → Inner top outer places before node below → AreBegun (top ∷ outer)

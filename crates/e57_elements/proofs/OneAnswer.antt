@@ -8,9 +8,9 @@ use Rattle.e57_base.specs.declared.fault.Fault.{Fault}
 use Rattle.e57_base.specs.declared.kind.Kind.TheVariants as kind
 use Rattle.e57_pieces.specs.declared.piece.Piece.{Piece}
 use Rattle.e57_pieces.specs.Cut.{NoPiece, IsNext, IsFront, IsCut}
-use Rattle.e57_pieces.specs.Laws.Cut.{IsUtf8-front, front_goes_on, cut_longest, one_cut}
-use Rattle.e57_pieces.specs.Laws.Next.{next_some, one_next}
-use Rattle.e57_pieces.specs.Laws.Start.{one_body, begins_somewhere, IsUtf8-body}
+use Rattle.e57_pieces.proofs.Laws.Cut.{IsUtf8-front, front_goes_on, cut_longest, one_cut}
+use Rattle.e57_pieces.proofs.Laws.Next.{next_some, one_next}
+use Rattle.e57_pieces.proofs.Laws.Start.{one_body, begins_somewhere, IsUtf8-body}
 use Rattle.e57_elements.specs.Tree.{Element, preorder}
 use Rattle.e57_elements.specs.Nested.{Nested, Alive}
 use Rattle.e57_elements.specs.Lawful.{IsLawful}

@@ -1,16 +1,14 @@
 -- How far the reading of a body has come.
-use Rattle.std.proofs.Common.{◌≡◌, ℕ, ◌-◌, ◌^◌, ◌<◌, ◌≤◌, Bool, true, false, List, [], ◌∷◌, ◌++◌, length, Option, Some, None, MatchOption, IfNone, OnSome, Result, Ok, Err, IfOk, IfErr, eqb, refl, sym, ap, subst, ◌∙◌, inl, inr, length-append, arith}
+use Rattle.std.proofs.Common.{◌≡◌, ℕ, ◌-◌, ◌<◌, ◌≤◌, Bool, true, false, List, [], ◌∷◌, length, Option, Some, None, MatchOption, IfNone, OnSome, Result, Ok, Err, IfOk, IfErr, eqb, refl, sym, ap, subst, ◌∙◌, inl, inr, length-append, arith}
 use Rattle.std.proofs.lemmas.Bool.{ne_eqb}
-use Rattle.std.specs.List.{AllByRecursion}
 use Rattle.e57_base.specs.Fault.{fault}
 use Rattle.e57_base.specs.declared.fault.TextFault.{TextFault}
 use Rattle.e57_base.specs.declared.fault.TextFault.TheVariants as failure
 use Rattle.e57_base.specs.declared.kind.Kind.TheVariants as kind
 use Rattle.e57_pieces.specs.declared.piece.Piece.{Piece}
 use Rattle.e57_pieces.specs.Cut.{NoPiece, IsNext}
-use Rattle.e57_pieces.specs.Start.{strip, mark, after_mark, Begins}
-use Rattle.e57_pieces.specs.Laws.Fronts.{strip_took}
-use Rattle.e57_pieces.specs.Laws.Start.{no_mark, mark_taken}
+use Rattle.e57_pieces.specs.Start.{Begins}
+use Rattle.e57_pieces.proofs.Laws.Start.{after_mark_le}
 use Rattle.e57_elements.specs.declared.tree.RawNode.{RawNode}
 use Rattle.e57_elements.specs.declared.builder.Builder.{Builder}
 use Rattle.e57_elements.specs.declared.builder.TakeFault.{TakeFault}
@@ -69,20 +67,12 @@ pub told : (here left : List ℕ) (builder : Builder) (len k : ℕ) (at_end : Bo
 told here left builder len k at_end result is_end same is_len ends s h =
     subst (λ n. Ends s (eqb (length here) 0) (len - n) result) is_len (subst (λ t. Ends s t (len - k) result) (is_end ∙ ap (λ (l : List ℕ). eqb (length l) 0) same) (ends s h))
 
--- ---- the body is no longer than the text
-
-after_mark_shorter : (text : List ℕ) → length (after_mark text) ≤ length text
-after_mark_shorter text = go (strip mark text) refl where
-  go : (o : Option (List ℕ)) → strip mark text ≡ o → length (after_mark text) ≤ length text
-  go None e = let h = ap length (no_mark text e) in omega arith
-  go (Some rest) e = let h = ap length (mark_taken text rest e) in let t = ap length (strip_took mark text rest e) in let l = length-append mark rest in omega arith
-
 pub body_shorter : (text body : List ℕ) → Begins text body → length body ≤ length text
-body_shorter text body (inl (none_declared, same)) = let h = ap length same in let m = after_mark_shorter text in omega arith
+body_shorter text body (inl (none_declared, same)) = let h = ap length same in let m = after_mark_le text in omega arith
 body_shorter text body (inr (declared, spelling, is_declaration, parts)) =
     let h = ap length parts in
     let l = length-append spelling body in
-    let m = after_mark_shorter text in
+    let m = after_mark_le text in
     omega arith
 
 -- ---- what `next` said

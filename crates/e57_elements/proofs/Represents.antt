@@ -7,9 +7,9 @@ use Rattle.e57_pieces.specs.declared.piece.Piece.TheVariants.{Start, Empty, End,
 use Rattle.e57_elements.specs.Tree.{Element, element, Elements, none, more}
 use Rattle.e57_elements.specs.Nested.{IsTextual, text_of, texts_of, IsElement, IsContent, IsOuter, Nested, Alive}
 use Rattle.e57_elements.specs.Machine.{Open, State, reading, done, join, with_text, with_child, ended, put, step, run}
-use Rattle.e57_elements.proofs.Lists.{all-joined}
 use Rattle.e57_elements.proofs.Steps.{Steps, by_steps}
 use Rattle.e57_elements.proofs.Runs.{run-append, run-none, nested_runs, bytes_eq-same}
+use Rattle.e57_base.proofs.Lists.{all_append}
 
 texts_of-append : (xs ys : List Piece) → texts_of (xs ++ ys) ≡ texts_of xs ++ texts_of ys
 texts_of-append [] ys = refl
@@ -21,7 +21,7 @@ texts_of-append (x ∷ xs) ys = ap (λ t. text_of x ++ t) (texts_of-append xs ys
 content_text : (es : Elements) (xs : List Piece) (text : List ℕ) (x : Piece) → IsContent es xs text → IsTextual x → IsContent es (xs ++ x ∷ []) (text ++ text_of x)
 content_text none xs text x h is_textual =
     record {
-      each = all-joined IsTextual xs (x ∷ []) h.each (is_textual, tt);
+      each = all_append IsTextual xs (x ∷ []) h.each (is_textual, tt);
       joined = ap (λ t. t ++ text_of x) h.joined ∙ ap (λ t. texts_of xs ++ t) (sym (append-nil (text_of x))) ∙ sym (texts_of-append xs (x ∷ []));
     }
 content_text (more e es) xs text x (before, inside, after, first, rest, parts, joined, texts, is_element, content) is_textual = (
@@ -91,11 +91,11 @@ outer_holds x e xs outer h =
       parts = ap (λ ps. ps ++ x ∷ []) h.parts ∙ append_assoc h.before (h.inside ++ h.after) (x ∷ []) ∙ ap (λ ps. h.before ++ ps) (append_assoc h.inside h.after (x ∷ []));
       outer_before = h.outer_before;
       is_element = h.is_element;
-      outer_after = all-joined IsOuter h.after (x ∷ []) h.outer_after (outer, tt);
+      outer_after = all_append IsOuter h.after (x ∷ []) h.outer_after (outer, tt);
     }
 
 comment_holds : (s : State) (xs : List Piece) → Represents s xs → Represents s (xs ++ Comment ∷ [])
-comment_holds (reading []) xs h = all-joined IsOuter xs (Comment ∷ []) h (tt, tt)
+comment_holds (reading []) xs h = all_append IsOuter xs (Comment ∷ []) h (tt, tt)
 comment_holds (reading (top ∷ outer)) xs (before, inside, parts, content, h) = (
   before,
   inside ++ Comment ∷ [],
@@ -123,7 +123,7 @@ represented = record {
   comment = λ s. record { on = λ xs h. comment_holds s xs h };
   cdata = λ text top outer. record { on = λ xs h. text_holds top outer xs (CData text) text tt refl h };
   run = λ text top outer. record { on = λ xs h. text_holds top outer xs (Text text) text tt refl h };
-  space_before = λ text e. record { on = λ xs h. all-joined IsOuter xs (Text text ∷ []) h (e, tt) };
+  space_before = λ text e. record { on = λ xs h. all_append IsOuter xs (Text text ∷ []) h (e, tt) };
   space_after = λ text d e. record { on = λ xs h. outer_holds (Text text) d xs e h };
 }
 

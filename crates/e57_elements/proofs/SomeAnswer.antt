@@ -1,5 +1,5 @@
 -- Each text spells a lawful tree, or has a first fault.
-use Rattle.std.proofs.Common.{◌≡◌, ℕ, zero, suc, ◌-◌, ◌<◌, ◌⊎◌, Bool, true, false, List, [], ◌∷◌, length, Option, Some, None, refl, sym, ◌∙◌, inl, inr, arith}
+use Rattle.std.proofs.Common.{◌≡◌, ℕ, zero, suc, ◌-◌, ◌<◌, ◌⊎◌, Bool, true, false, List, [], ◌∷◌, length, refl, inl, inr, arith}
 use Rattle.std.specs.Str.{IsUtf8, is_utf8}
 use Rattle.std.specs.Str.Lossy.{utf8_valid_len}
 use Rattle.std.proofs.lemmas.Str.{IsUtf8-from_is_utf8, is_utf8-from_IsUtf8}
@@ -9,21 +9,18 @@ use Rattle.e57_base.specs.declared.kind.Kind.TheVariants as kind
 use Rattle.e57_pieces.specs.Cut.{NoPiece}
 use Rattle.e57_pieces.specs.Start.{start_place, Begins}
 use Rattle.e57_pieces.specs.Reading.{next_at, body_at}
-use Rattle.e57_pieces.specs.Laws.Next.{is_next, no_next, next_shorter, IsUtf8-next}
-use Rattle.e57_pieces.specs.Laws.Start.{begins_is, begins_nowhere, IsUtf8-body}
+use Rattle.e57_pieces.proofs.Laws.Next.{is_next, no_next, next_shorter, IsUtf8-next}
+use Rattle.e57_pieces.proofs.Laws.Start.{begins_is, begins_nowhere, IsUtf8-body}
 use Rattle.e57_elements.specs.declared.tree.RawNode.{RawNode}
 use Rattle.e57_elements.specs.Fault.{IsBodyFault, HasAnswer}
 use Rattle.e57_elements.specs.Machine.{State, reading, done, step, passes_in}
 use Rattle.e57_elements.specs.Builder.{ReadsBody}
 use Rattle.e57_elements.proofs.Led.{Led, led_start, led_next, nest_fault, limit_fault, piece_fault, end_fault, end_tree}
+use Rattle.e57_base.proofs.Options.{option_cases}
 
 tested : (b : Bool) → (b ≡ true) ⊎ (b ≡ false)
 tested true = inl refl
 tested false = inr refl
-
-seen : {A : Type 0} (o : Option A) → (o ≡ None) ⊎ ((x : A) × (o ≡ Some x))
-seen None = inl refl
-seen (Some x) = inr (x, refl)
 
 -- ---- of a body
 
@@ -40,14 +37,14 @@ at_stop len body (b ∷ bs) l none_here = inr (_, piece_fault len body b bs l no
 walk : (n len : ℕ) (body here : List ℕ) → length here < n → IsUtf8 here → Led body here → BodyAnswer len body
 walk zero len body here lt utf8 l = absurd (omega arith)
 walk (suc n) len body here lt utf8 l =
-    elim (seen (next_at here)) [
+    elim (option_cases (next_at here)) [
       | inl none ↦ at_stop len body here l (no_next here utf8 none)
       | inr found ↦
           let next = is_next here found.0.0 found.0.1 utf8 found.1 in
-          elim (seen (step l.state found.0.0)) [
+          elim (option_cases (step l.state found.0.0)) [
             | inl dead ↦ inr (_, nest_fault len body here found.0.1 found.0.0 l next dead)
             | inr after ↦
-                elim (seen (passes_in l.state found.0.0)) [
+                elim (option_cases (passes_in l.state found.0.0)) [
                   | inr passed ↦ inr (_, limit_fault len body here found.0.1 found.0.0 after.0 passed.0 l next after.1 passed.1)
                   | inl fits ↦
                       walk n len body found.0.1 (omega (arith, next_shorter here found.0.0 found.0.1 next)) (IsUtf8-next here found.0.0 found.0.1 utf8 next)
@@ -69,7 +66,7 @@ from_body text body utf8 begins (inr (fault, is)) = inr (fault, inr (inr (utf8, 
 
 of_utf8 : (text : List ℕ) → IsUtf8 text → HasAnswer text
 of_utf8 text utf8 =
-    elim (seen (body_at text)) [
+    elim (option_cases (body_at text)) [
       | inl none ↦ inr (fault kind.Piece (start_place text) 0, inr (inl (utf8, (begins_nowhere text utf8 none, refl))))
       | inr found ↦
           let begins = begins_is text found.0 utf8 found.1 in

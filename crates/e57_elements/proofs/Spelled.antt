@@ -10,10 +10,10 @@ use Rattle.e57_pieces.specs.Words.{is_space, begins_name, goes_on_name, is_plain
 use Rattle.e57_pieces.specs.Grammar.{IsAttr, AreAttrs, differ, IsInside, IsTag, Spelled}
 use Rattle.e57_pieces.specs.Cut.{NoPiece, NoRun, IsNext, IsFront}
 use Rattle.e57_pieces.specs.Start.{strip, IsDeclaration, Begins}
-use Rattle.e57_pieces.specs.Laws.Characters.{AreCharacters-append, AreCharacters-nil, IsUtf8-AreCharacters}
-use Rattle.e57_pieces.specs.Laws.References.{NoPart, no_reference}
-use Rattle.e57_pieces.specs.Laws.Markup.{run_begins}
-use Rattle.e57_pieces.specs.Laws.Cut.{IsFront-append}
+use Rattle.e57_pieces.proofs.Laws.Characters.{AreCharacters-append, AreCharacters-nil, IsUtf8-AreCharacters}
+use Rattle.e57_pieces.proofs.Laws.References.{NoPart, no_reference}
+use Rattle.e57_pieces.proofs.Laws.Markup.{run_begins}
+use Rattle.e57_pieces.proofs.Laws.Cut.{IsFront-append}
 use Rattle.e57_elements.specs.declared.tree.RawNode.{RawNode}
 use Rattle.e57_elements.specs.Tree.{Element, element, Elements, none, more, preorder, preorder_all}
 use Rattle.e57_elements.specs.Nested.{only_space, AreTexts, kept, IsElement, IsContent}

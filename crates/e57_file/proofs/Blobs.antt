@@ -1,42 +1,33 @@
 -- The first fault of a blob's section, from the steps of its opening.
 use Rattle.std.proofs.Common.{◌≡◌, ℕ, ◌+◌, ◌*◌, ◌/◌, ◌≤◌, ◌<◌, ◌⊎◌, ◌==◌, Bool, true, false, not, List, length, take, drop, Option, Some, None, inl, inr, refl, sym, subst, ap, ◌∙◌, arith, lit≤, ⊎_elim}
-use Rattle.std.specs.Prelude.{nat_lt, if◌then◌else◌, IfSome}
+use Rattle.std.specs.Prelude.{nat_lt, IfSome}
 use Rattle.std.specs.Option.{option_or}
 use Rattle.std.proofs.lemmas.Bool.{ltb-false, eqb-true}
 use Rattle.e57_base.specs.Fault.{fault}
 use Rattle.e57_base.specs.Source.{SourceView, HoldsSize}
-use Rattle.e57_base.specs.Told.{told_map, told_both, length_told}
+use Rattle.e57_base.proofs.Told.{told_map, told_both, length_told}
 use Rattle.e57_base.specs.declared.fault.Fault.{Fault}
 use Rattle.e57_base.specs.declared.fault.ReadFault.{ReadFault}
 use Rattle.e57_base.specs.declared.fault.ReadFault.TheVariants.{Refused, Source}
 use Rattle.e57_base.specs.declared.kind.Kind.TheVariants.{BlobPlace, BlobId}
 use Rattle.e57_bits.specs.Bits.{number}
-use Rattle.e57_bits.specs.BitLaws.{number-take, number-drop}
+use Rattle.e57_bits.proofs.BitLaws.{number-take, number-drop}
 use Rattle.e57_page.specs.declared.pages.Cut.{Cut}
 use Rattle.e57_page.specs.Place.{place, span_end}
 use Rattle.e57_page.specs.Kept.{is_kept, KeepsTo}
 use Rattle.e57_page.specs.File.{logical, logical_size, span_fault}
 use Rattle.e57_page.specs.Pages.{IsCutAt, IsStopped}
-use Rattle.e57_page.specs.PagesLaws.{cut_below, cut_fault, cut_source}
+use Rattle.e57_page.proofs.PagesLaws.{cut_below, cut_fault, cut_source}
 use Rattle.e57_layout.specs.Headers.{blob_head_at}
 use Rattle.e57_layout.specs.declared.section.BlobHeader.{BlobHeader}
-use Rattle.e57_sections.specs.Met.{InSpan}
-use Rattle.e57_sections.specs.Section.{when}
+use Rattle.e57_cloud.specs.Met.{InSpan}
+use Rattle.e57_cloud.specs.Section.{when}
 use Rattle.e57_tree.specs.declared.items.Blob.{Blob}
-use Rattle.e57_file.specs.Blob.{blob_head, blob_fault, blob_fault_from, head_within, head_place, LiesIn}
+use Rattle.e57_file.specs.Blob.{blob_head, stated_blob_fault, stated_blob_fault_from, head_within, head_place, LiesIn}
 use Rattle.e57_file.specs.BlobReading.{is_blob_kind, IsBlobCause}
+use Rattle.e57_base.proofs.Options.{cond_none, cond_found}
 
--- ---- where the header is
-
-cond_none : (b : Bool) (q : ℕ) → ◌≡◌ {A = Option ℕ} (if b then None else Some q) None → b ≡ true
-cond_none true q e = refl
-cond_none false q e = absurd cc
-
-cond_some : (b : Bool) (q head : ℕ) → ◌≡◌ {A = Option ℕ} (if b then None else Some q) (Some head) → (b ≡ false) × (q ≡ head)
-cond_some true q head e = absurd cc
-cond_some false q head e = (refl, cc)
-
-outside : (file : List ℕ) (size : ℕ) (blob : Blob) (p : Option ℕ) → logical_size file ≡ size → head_within size blob.length p ≡ None → blob_fault_from file blob p ≡ Some (fault BlobPlace blob.node blob.place)
+outside : (file : List ℕ) (size : ℕ) (blob : Blob) (p : Option ℕ) → logical_size file ≡ size → head_within size blob.length p ≡ None → stated_blob_fault_from file blob p ≡ Some (fault BlobPlace blob.node blob.place)
 outside file size blob None same e = refl
 outside file size blob (Some q) same e = let past = cond_none (nat_lt size (q + (16 + blob.length))) q e in rw (same, past) refl
 
@@ -45,10 +36,10 @@ abbrev head_fault : List ℕ → Blob → ℕ → Option Fault
 head_fault file blob head =
     option_or (span_fault file head 16) (when (not ((blob_head_at (logical file) head).id == 0)) (fault BlobId blob.node (blob_head_at (logical file) head).id))
 
-inside : (file : List ℕ) (size : ℕ) (blob : Blob) (head : ℕ) (p : Option ℕ) → logical_size file ≡ size → head_within size blob.length p ≡ Some head → blob_fault_from file blob p ≡ head_fault file blob head
+inside : (file : List ℕ) (size : ℕ) (blob : Blob) (head : ℕ) (p : Option ℕ) → logical_size file ≡ size → head_within size blob.length p ≡ Some head → stated_blob_fault_from file blob p ≡ head_fault file blob head
 inside file size blob head None same e = absurd cc
 inside file size blob head (Some q) same e =
-    let both = cond_some (nat_lt size (q + (16 + blob.length))) q head e in
+    let both = cond_found (nat_lt size (q + (16 + blob.length))) q head e in
     let here = both.1 in
     rw (same, both.0, here) refl
 
@@ -56,7 +47,7 @@ inside file size blob head (Some q) same e =
 placed : (size n head : ℕ) (p : Option ℕ) → head_within size n p ≡ Some head → (p ≡ Some head) × (head + (16 + n) ≤ size)
 placed size n head None e = absurd cc
 placed size n head (Some q) e =
-    let both = cond_some (nat_lt size (q + (16 + n))) q head e in
+    let both = cond_found (nat_lt size (q + (16 + n))) q head e in
     (ap (λ (x : ℕ). Some x) both.1, rw both.1 at (ltb-false size (q + (16 + n)) both.0))
 
 pub head_is : (size head : ℕ) (blob : Blob) → head_place size blob ≡ Some head → blob_head blob ≡ head
@@ -74,21 +65,21 @@ told_size old size holds known = told_map (λ file. length file ≡ size) (λ fi
 
 -- ---- the causes
 
-pub outside_cause : (old : SourceView) (size : ℕ) (blob : Blob) → IfSome old.held (λ file. logical_size file ≡ size) → head_place size blob ≡ None → IfSome old.held (λ file. blob_fault file blob ≡ Some (fault BlobPlace blob.node blob.place))
-unfolding blob_fault
+pub outside_cause : (old : SourceView) (size : ℕ) (blob : Blob) → IfSome old.held (λ file. logical_size file ≡ size) → head_place size blob ≡ None → IfSome old.held (λ file. stated_blob_fault file blob ≡ Some (fault BlobPlace blob.node blob.place))
+unfolding stated_blob_fault
 outside_cause old size blob told e =
-    told_map (λ file. logical_size file ≡ size) (λ file. blob_fault file blob ≡ Some (fault BlobPlace blob.node blob.place)) old.held (λ file same. outside file size blob (place blob.place) same e) told
+    told_map (λ file. logical_size file ≡ size) (λ file. stated_blob_fault file blob ≡ Some (fault BlobPlace blob.node blob.place)) old.held (λ file same. outside file size blob (place blob.place) same e) told
 
 by_page : (file : List ℕ) (blob : Blob) (head : ℕ) (found : Fault) → span_fault file head 16 ≡ Some found → head_fault file blob head ≡ Some found
 by_page file blob head found wrong = rw wrong refl
 
 pub page_cause : (old new : SourceView) (size head n : ℕ) (blob : Blob) (kept now before after : List ℕ) (cut : Cut) → length before ≡ 16 → IfSome old.held (λ file. logical_size file ≡ size) → head_place size blob ≡ Some head → IsCutAt old kept head before cut after n new now → IsBlobCause old blob cut.fault new
-unfolding blob_fault
+unfolding stated_blob_fault
 page_cause old new size head n blob kept now before after cut long told e is = by_fault cut.fault refl where
   by_fault : (failure : ReadFault) → cut.fault ≡ failure → IsBlobCause old blob failure new
   by_fault (Refused found) same = (
     subst (λ (f : Fault). is_blob_kind f.kind ≡ true) (sym (subst (λ (f : ReadFault). IsStopped old n f new) same is.cause).0) refl,
-    told_both (λ file. logical_size file ≡ size) (λ file. span_fault file head (length before) ≡ Some found) (λ file. blob_fault file blob ≡ Some found) old.held
+    told_both (λ file. logical_size file ≡ size) (λ file. span_fault file head (length before) ≡ Some found) (λ file. stated_blob_fault file blob ≡ Some found) old.held
         (λ file long_is wrong. inside file size blob head (place blob.place) long_is e ∙ by_page file blob head found (rw long at wrong)) told (cut_fault old new kept now head n before after cut found same is),
   )
   by_fault Source same = cut_source old new kept now head n before after cut same is
@@ -101,10 +92,10 @@ head-piece b q =
     rw (id, size) refl
 
 -- the header that was read has this id
-pub id_outcome : (old : SourceView) (size head : ℕ) (blob : Blob) (bytes : List ℕ) (header : BlobHeader) (outcome : Option Fault) → IfSome old.held (λ file. logical_size file ≡ size) → head_place size blob ≡ Some head → IfSome old.held (λ file. span_fault file head 16 ≡ None) → IfSome old.held (λ file. bytes ≡ take 16 (drop head (logical file))) → header ≡ blob_head_at bytes 0 → when (not (header.id == 0)) (fault BlobId blob.node header.id) ≡ outcome → IfSome old.held (λ file. blob_fault file blob ≡ outcome)
-unfolding blob_fault
+pub id_outcome : (old : SourceView) (size head : ℕ) (blob : Blob) (bytes : List ℕ) (header : BlobHeader) (outcome : Option Fault) → IfSome old.held (λ file. logical_size file ≡ size) → head_place size blob ≡ Some head → IfSome old.held (λ file. span_fault file head 16 ≡ None) → IfSome old.held (λ file. bytes ≡ take 16 (drop head (logical file))) → header ≡ blob_head_at bytes 0 → when (not (header.id == 0)) (fault BlobId blob.node header.id) ≡ outcome → IfSome old.held (λ file. stated_blob_fault file blob ≡ outcome)
+unfolding stated_blob_fault
 id_outcome old size head blob bytes header outcome told e right read is judged =
-    told_both (λ file. logical_size file ≡ size) (λ file. (span_fault file head 16 ≡ None) × (bytes ≡ take 16 (drop head (logical file)))) (λ file. blob_fault file blob ≡ outcome) old.held
+    told_both (λ file. logical_size file ≡ size) (λ file. (span_fault file head 16 ≡ None) × (bytes ≡ take 16 (drop head (logical file)))) (λ file. stated_blob_fault file blob ≡ outcome) old.held
     (λ file same both.
     let header_is : header ≡ blob_head_at (logical file) head = is ∙ ap (λ (b : List ℕ). blob_head_at b 0) both.1 ∙ head-piece (logical file) head in
     inside file size blob head (place blob.place) same e ∙ rw (both.0, ← header_is) judged)

@@ -12,7 +12,7 @@ use Rattle.e57_nodes.specs.Facts.{Facts}
 use Rattle.e57_nodes.specs.Shape.{Shape, shape, Shapes, no_shapes, shapes, node_count, Node, node_at, children_of, nodes_below}
 use Rattle.e57_nodes.specs.Places.{has_section}
 use Rattle.e57_nodes.specs.Fields.{child_named, fields_of}
-use Rattle.e57_nodes.specs.Typed.{max_records, max_fields, type_fault, name_fault, is_misplaced, vector_child_fault, leaf_child_fault, child_fault, integer_fault, vector_attr_fault, blob_attr_fault, attr_fault, order_fault, limits_fault, codecs_fault, is_structure, prototype_fault, field_count_fault, record_limit_fault, fields_fault, compressed_vector_fault, rules_fault, node_fault, names_differ, namesake_of, tree_fault, trees_fault}
+use Rattle.e57_nodes.specs.Typed.{max_records, max_fields, type_fault, name_fault, is_misplaced, vector_child_fault, leaf_child_fault, child_fault, integer_fault, vector_attr_fault, blob_attr_fault, attr_fault, order_fault, limits_fault, codecs_fault, is_structure, prototype_fault, field_count_fault, record_limit_fault, prototype_fields_fault, compressed_vector_fault, rules_fault, node_fault, names_differ, namesake_of, tree_fault, trees_fault}
 use Rattle.e57_file.specs.Opened.{is_node_kind}
 
 -- the fault where the test holds
@@ -113,7 +113,7 @@ of_prototype n (Some prototype) =
     (tested (not (is_structure prototype.facts.element_type)) (fault kind.Prototype n prototype.number) refl)
     (mapped (λ (x : Node). fault kind.Prototype n x.number) (find (λ (x : Node). has_section x.facts.element_type) (nodes_below prototype)) (λ x. refl))
 
-of_fields : (x : Node) → OfNode (fields_fault x)
+of_fields : (x : Node) → OfNode (prototype_fields_fault x)
 of_fields x =
     first_of (prototype_fault x.number (child_named (codes "prototype") (children_of x))) (field_count_fault x.number (length (fields_of x)))
     (of_prototype x.number (child_named (codes "prototype") (children_of x)))
@@ -122,9 +122,9 @@ of_fields x =
 of_cloud : (x : Node) (t : Option ElementType) → OfNode (compressed_vector_fault x t)
 unfolding compressed_vector_fault
 of_cloud x (Some element_type.CompressedVector) =
-    first_of (record_limit_fault x.number x.facts) (option_or (codecs_fault x.number (child_named (codes "codecs") (children_of x))) (fields_fault x))
+    first_of (record_limit_fault x.number x.facts) (option_or (codecs_fault x.number (child_named (codes "codecs") (children_of x))) (prototype_fields_fault x))
     (tested (nat_lt max_records (unwrap_or x.facts.record_count 0)) (fault kind.RecordLimit x.number (unwrap_or x.facts.record_count 0)) refl)
-    (first_of (codecs_fault x.number (child_named (codes "codecs") (children_of x))) (fields_fault x) (of_codecs x.number (child_named (codes "codecs") (children_of x))) (of_fields x))
+    (first_of (codecs_fault x.number (child_named (codes "codecs") (children_of x))) (prototype_fields_fault x) (of_codecs x.number (child_named (codes "codecs") (children_of x))) (of_fields x))
 of_cloud x other = tt
 
 of_rules : (x : Node) (t : Option ElementType) → OfNode (rules_fault x t)

@@ -3,7 +3,7 @@ use Rattle.std.proofs.Common.{◌≡◌, ℕ, ◌*◌, ◌/◌, slice_get, Bool,
 use Rattle.std.specs.Prelude.{IfSome, IfErr, MatchOption, IsErrAnd}
 use Rattle.e57_base.specs.Fault.{text_as_open}
 use Rattle.e57_base.specs.Source.{SourceView}
-use Rattle.e57_base.specs.Told.{told_both}
+use Rattle.e57_base.proofs.Told.{told_both}
 use Rattle.e57_base.specs.declared.fault.Fault.{Fault}
 use Rattle.e57_base.specs.declared.fault.OpenFault.{OpenFault}
 use Rattle.e57_base.specs.declared.fault.OpenFault.TheVariants.{Refused}
@@ -21,7 +21,7 @@ use Rattle.e57_layout.specs.declared.field.Field.{Field}
 use Rattle.e57_nodes.specs.Shape.{shape_of}
 use Rattle.e57_nodes.specs.Typed.{typed_fault}
 use Rattle.e57_tree.specs.Judged.{IsJudged}
-use Rattle.e57_file.specs.Text.{section_fault, section_text, is_text_kind, is_place_kind, IsPastPlace, JudgesPlace, IsTextRead}
+use Rattle.e57_file.specs.Text.{xml_fault, section_text, is_text_kind, is_place_kind, IsPastPlace, JudgesPlace, IsTextRead}
 use Rattle.e57_file.specs.Opened.{IsTreeFault, is_node_kind, HasNodes, IsOpenCause, field_number}
 use Rattle.e57_file.proofs.NodeKinds.{node_kind}
 
@@ -76,7 +76,7 @@ late_past raw text.Memory nodes judged = tt
 pub late_cause : (old new : SourceView) (raw : List RawNode) (fault : TextFault) → AreNodes raw → IsTextRead old raw → AreJudged raw (Err fault) → IsOpenCause old (text_as_open fault) new
 late_cause old new raw (text.Refused found) nodes reads judged = (
   right_kind (is_text_kind found.kind) (is_node_kind found.kind) (node_kind None 0 (shape_of nodes.tree) found (judged nodes.tree nodes.in_preorder)),
-  told_both (λ file. section_fault file ≡ None) (λ file. Reads (section_text file) raw) (λ file. IsTreeFault file found) old.held
+  told_both (λ file. xml_fault file ≡ None) (λ file. Reads (section_text file) raw) (λ file. IsTreeFault file found) old.held
       (λ file sound read. inr (read.tree, record { sound = sound; spells = read.spells; is_lawful = read.is_lawful }, judged read.tree read.in_preorder))
       reads.sound reads.tree,
 )
@@ -85,7 +85,7 @@ late_cause old new raw text.Memory nodes reads judged = tt
 -- the nodes have no fault
 pub has_nodes : (old : SourceView) (raw nodes x : List RawNode) → IsTextRead old raw → nodes ≡ raw → AreJudged raw (Ok x) → IfSome old.held (λ file. HasNodes file nodes)
 has_nodes old raw nodes x reads same judged =
-    told_both (λ file. section_fault file ≡ None) (λ file. Reads (section_text file) raw) (λ file. HasNodes file nodes) old.held
+    told_both (λ file. xml_fault file ≡ None) (λ file. Reads (section_text file) raw) (λ file. HasNodes file nodes) old.held
     (λ file sound read. record {
       tree = read.tree;
       in_preorder = same ∙ read.in_preorder;

@@ -1,11 +1,11 @@
 -- The faults of the XML section, from what the steps of its opening found.
-use Rattle.std.proofs.Common.{◌≡◌, ℕ, ◌+◌, ◌-◌, ◌*◌, ◌/◌, ◌≤◌, min, Bool, true, false, cond, List, [], ◌∷◌, length, take, drop, Option, Some, None, Result, Ok, Err, MatchResult, inl, inr, refl, sym, subst, arith, ⊎_elim}
-use Rattle.std.specs.Prelude.{IfSome, nat_lt, IsErrAnd}
+use Rattle.std.proofs.Common.{◌≡◌, ℕ, ◌+◌, ◌-◌, ◌*◌, ◌/◌, ◌≤◌, min, Bool, true, false, cond, List, [], ◌∷◌, length, take, drop, Option, Some, None, inl, inr, refl, sym, subst, arith, ⊎_elim}
+use Rattle.std.specs.Prelude.{IfSome, nat_lt}
 use Rattle.std.specs.Option.{option_or}
 use Rattle.std.proofs.lemmas.Bool.Decides.{nat_tests}
 use Rattle.e57_base.specs.Fault.{fault, read_as_open, text_as_open}
 use Rattle.e57_base.specs.Source.{SourceView, HoldsSize}
-use Rattle.e57_base.specs.Told.{told_map, told_both, length_told}
+use Rattle.e57_base.proofs.Told.{told_map, told_both, length_told}
 use Rattle.e57_base.specs.declared.fault.Fault.{Fault}
 use Rattle.e57_base.specs.declared.fault.ReadFault.{ReadFault}
 use Rattle.e57_base.specs.declared.fault.ReadFault.TheVariants as read
@@ -19,7 +19,7 @@ use Rattle.e57_page.specs.Header.{header_of}
 use Rattle.e57_page.specs.Place.{place, span_end}
 use Rattle.e57_page.specs.File.{logical, span_fault}
 use Rattle.e57_page.specs.Pages.{AsksUnkept, IsCutAt, IsStopped}
-use Rattle.e57_page.specs.PagesLaws.{asks_unkept_wider, cut_fault, cut_source}
+use Rattle.e57_page.proofs.PagesLaws.{asks_unkept_wider, cut_fault, cut_source}
 use Rattle.e57_page.specs.XmlSection.{xml_limit, xml_place_fault, xml_limit_fault, xml_start, xml_span_fault, xml_section_fault, xml_text}
 use Rattle.e57_pieces.specs.declared.piece.Piece.{Piece}
 use Rattle.e57_pieces.specs.Cut.{IsNext, NoPiece}
@@ -27,7 +27,7 @@ use Rattle.e57_elements.specs.declared.tree.RawNode.{RawNode}
 use Rattle.e57_elements.specs.Spells.{Reads}
 use Rattle.e57_elements.specs.Fault.{IsFirstFault, IsReadFault, IsPieceFault, IsStopFault}
 use Rattle.e57_file.specs.Section.{IsSectionPlace}
-use Rattle.e57_file.specs.Text.{section_fault, section_text, IsTextFault, is_text_kind, IsTextRead, IsTextCause}
+use Rattle.e57_file.specs.Text.{xml_fault, section_text, IsTextFault, is_text_kind, IsTextRead, IsTextCause}
 
 -- ---- three faults, one after another
 
@@ -104,7 +104,7 @@ refused_by_place header size old new found told e = (
 )
 
 -- where place and length are right, the first fault before the text is that of the pages
-before_text : (header : Header) (size start count : ℕ) (file : List ℕ) (outcome : Option Fault) → HasHeader header size file → IsSectionPlace header (size / 1024 * 1020) start → count ≡ header.xml_length → span_fault file start count ≡ outcome → section_fault file ≡ outcome
+before_text : (header : Header) (size start count : ℕ) (file : List ℕ) (outcome : Option Fault) → HasHeader header size file → IsSectionPlace header (size / 1024 * 1020) start → count ≡ header.xml_length → span_fault file start count ≡ outcome → xml_fault file ≡ outcome
 before_text header size start count file outcome is placed long pages =
     let here : span_fault file (xml_start header) header.xml_length ≡ outcome = subst (λ (n : ℕ). span_fault file (xml_start header) n ≡ outcome) long (subst (λ (q : ℕ). span_fault file q count ≡ outcome) placed.start_is pages) in
     subst (λ (h : Header). xml_section_fault h file ≡ outcome) is.1
@@ -144,9 +144,9 @@ refused_by_page header size start kept now n before after cut old new told place
   by_fault read.Source e = cut_source old new kept now start n before after cut e is
 
 -- all pages of the section are right, and the text is that of the file
-section_read : (header : Header) (size start count : ℕ) (old : SourceView) (bytes : List ℕ) → IfSome old.held (HasHeader header size) → IsSectionPlace header (size / 1024 * 1020) start → count ≡ header.xml_length → IfSome old.held (λ file. span_fault file start count ≡ None) → IfSome old.held (λ file. bytes ≡ take count (drop start (logical file))) → IfSome old.held (λ file. (section_fault file ≡ None) × (bytes ≡ section_text file))
+section_read : (header : Header) (size start count : ℕ) (old : SourceView) (bytes : List ℕ) → IfSome old.held (HasHeader header size) → IsSectionPlace header (size / 1024 * 1020) start → count ≡ header.xml_length → IfSome old.held (λ file. span_fault file start count ≡ None) → IfSome old.held (λ file. bytes ≡ take count (drop start (logical file))) → IfSome old.held (λ file. (xml_fault file ≡ None) × (bytes ≡ section_text file))
 section_read header size start count old bytes told placed long right text =
-    told_both (λ file. (HasHeader header size file) × (span_fault file start count ≡ None)) (λ file. bytes ≡ take count (drop start (logical file))) (λ file. (section_fault file ≡ None) × (bytes ≡ section_text file)) old.held
+    told_both (λ file. (HasHeader header size file) × (span_fault file start count ≡ None)) (λ file. bytes ≡ take count (drop start (logical file))) (λ file. (xml_fault file ≡ None) × (bytes ≡ section_text file)) old.held
     (λ file here is. (before_text header size start count file None here.0 placed long here.1, text_here header size start count file bytes here.0 placed.start_is long is))
     (told_both (HasHeader header size) (λ file. span_fault file start count ≡ None) (λ file. (HasHeader header size file) × (span_fault file start count ≡ None)) old.held (λ file is none. (is, none)) told right)
     text
@@ -155,7 +155,7 @@ section_read header size start count old bytes told placed long right text =
 pub refused_by_text : (header : Header) (size start count : ℕ) (old new : SourceView) (bytes : List ℕ) (failure : TextFault) → IfSome old.held (HasHeader header size) → IsSectionPlace header (size / 1024 * 1020) start → count ≡ header.xml_length → IfSome old.held (λ file. span_fault file start count ≡ None) → IfSome old.held (λ file. bytes ≡ take count (drop start (logical file))) → IsReadFault bytes failure → IsTextCause old (text_as_open failure) new
 refused_by_text header size start count old new bytes (text.Refused found) told placed long right read is = (
   text_kind bytes found is,
-  told_map (λ file. (section_fault file ≡ None) × (bytes ≡ section_text file)) (λ file. IsTextFault file found) old.held (λ file here. inr (here.0, subst (λ (t : List ℕ). IsFirstFault t found) here.1 is)) (section_read header size start count old bytes told placed long right read),
+  told_map (λ file. (xml_fault file ≡ None) × (bytes ≡ section_text file)) (λ file. IsTextFault file found) old.held (λ file here. inr (here.0, subst (λ (t : List ℕ). IsFirstFault t found) here.1 is)) (section_read header size start count old bytes told placed long right read),
 )
 refused_by_text header size start count old new bytes text.Memory told placed long right read is = tt
 
@@ -164,11 +164,6 @@ pub text_read : (header : Header) (size start count : ℕ) (old : SourceView) (b
 text_read header size start count old bytes nodes told placed long right read is =
     let here = section_read header size start count old bytes told placed long right read in
     record {
-      sound = told_map (λ file. (section_fault file ≡ None) × (bytes ≡ section_text file)) (λ file. section_fault file ≡ None) old.held (λ file both. both.0) here;
-      tree = told_map (λ file. (section_fault file ≡ None) × (bytes ≡ section_text file)) (λ file. Reads (section_text file) nodes) old.held (λ file both. subst (λ (t : List ℕ). Reads t nodes) both.1 is) here;
+      sound = told_map (λ file. (xml_fault file ≡ None) × (bytes ≡ section_text file)) (λ file. xml_fault file ≡ None) old.held (λ file both. both.0) here;
+      tree = told_map (λ file. (xml_fault file ≡ None) × (bytes ≡ section_text file)) (λ file. Reads (section_text file) nodes) old.held (λ file both. subst (λ (t : List ℕ). Reads t nodes) both.1 is) here;
     }
-
--- what a failed step answers is the only answer
-pub by_error : {T E : Type 0} (P : T → Type 0) (Q : E → Type 0) (failure : E) (result : Result T E) → IsErrAnd result (λ e. e ≡ failure) → Q failure → MatchResult result P Q
-by_error P Q failure (Ok x) is q = absurd is
-by_error P Q failure (Err e) is q = subst Q (sym is) q

@@ -8,7 +8,7 @@ use Rattle.e57_base.specs.declared.kind.Kind.TheVariants.{BlobPlace, BlobId}
 use Rattle.e57_page.specs.Place.{place}
 use Rattle.e57_page.specs.File.{logical, logical_size, span_fault}
 use Rattle.e57_layout.specs.Headers.{blob_head_at}
-use Rattle.e57_sections.specs.Section.{when, or_zero}
+use Rattle.e57_cloud.specs.Section.{when, or_zero}
 use Rattle.e57_elements.specs.declared.tree.RawNode.{RawNode}
 use Rattle.e57_elements.specs.Tree.{Element, preorder}
 use Rattle.e57_tree.specs.declared.items.Blob.{Blob}
@@ -27,16 +27,16 @@ blob_start blob = blob_head blob + head_length
 
 -- the first fault of a blob's section whose header is at this place: header and bytes pass the file, a page of the header
 -- is wrong, the id isn't 0
-abbrev pub blob_fault_from : List ℕ → Blob → Option ℕ → Option Fault
-blob_fault_from file blob None = Some (fault BlobPlace blob.node blob.place)
-blob_fault_from file blob (Some q) =
+abbrev pub stated_blob_fault_from : List ℕ → Blob → Option ℕ → Option Fault
+stated_blob_fault_from file blob None = Some (fault BlobPlace blob.node blob.place)
+stated_blob_fault_from file blob (Some q) =
     option_or (when (nat_lt (logical_size file) (q + (head_length + blob.length))) (fault BlobPlace blob.node blob.place))
     (option_or (span_fault file q head_length)
     (when (not ((blob_head_at (logical file) q).id == 0)) (fault BlobId blob.node (blob_head_at (logical file) q).id)))
 
 -- The first fault of a blob's section: the offset has no place, or the faults above.
-unfoldable pub blob_fault : List ℕ → Blob → Option Fault
-blob_fault file blob = blob_fault_from file blob (place blob.place)
+unfoldable pub stated_blob_fault : List ℕ → Blob → Option Fault
+stated_blob_fault file blob = stated_blob_fault_from file blob (place blob.place)
 
 abbrev pub head_within : ℕ → ℕ → Option ℕ → Option ℕ
 head_within size n None = None
@@ -51,8 +51,8 @@ abbrev pub LiesIn : ℕ → Blob → Type 0
 LiesIn size blob = head_place size blob ≡ Some (blob_head blob)
 
 -- the bytes of a blob
-abbrev pub blob_bytes : List ℕ → Blob → List ℕ
-blob_bytes file blob = take blob.length (drop (blob_start blob) (logical file))
+abbrev pub stated_blob_bytes : List ℕ → Blob → List ℕ
+stated_blob_bytes file blob = take blob.length (drop (blob_start blob) (logical file))
 
 -- a tree with these nodes has a blob of this number
 abbrev pub HasBlob : List RawNode → ℕ → Type 0

@@ -11,9 +11,9 @@ use Rattle.e57_page.specs.declared.pages.Cut.{Cut}
 use Rattle.e57_page.specs.Place.{payload_length, span_end}
 use Rattle.e57_page.specs.Kept.{is_kept, KeepsTo}
 use Rattle.e57_page.specs.Pages.{Reading, AsksUnkept, ReadsRange, IsCutAt}
-use Rattle.e57_sections.specs.Met.{InSpan}
+use Rattle.e57_cloud.specs.Met.{InSpan}
 use Rattle.e57_tree.specs.declared.items.Blob.{Blob}
-use Rattle.e57_file.specs.Blob.{head_length, blob_head, blob_start, blob_fault, head_place, LiesIn, blob_bytes}
+use Rattle.e57_file.specs.Blob.{head_length, blob_head, blob_start, stated_blob_fault, head_place, LiesIn, stated_blob_bytes}
 
 -- Of the pages of the header those that weren't kept were asked for, or the first of these, in ascending order, each once,
 -- and no other.
@@ -26,7 +26,7 @@ pub record OpensBlob (old : SourceView) (kept : List ℕ) (size : ℕ) (blob : B
   pub keeps : KeepsTo kept (blob_head blob / payload_length) (span_end (blob_head blob) head_length) (span_end (blob_head blob) head_length) now
   pub begins : start ≡ blob_start blob
   pub lies : LiesIn size blob
-  pub sound : IfSome old.held (λ file. blob_fault file blob ≡ None)
+  pub sound : IfSome old.held (λ file. stated_blob_fault file blob ≡ None)
 
 -- a kind of fault that a blob's section can have
 abbrev pub is_blob_kind : Kind → Bool
@@ -37,7 +37,7 @@ is_blob_kind _ = false
 
 -- why a blob wasn't opened: the first fault of its section, or the source failed
 abbrev pub IsBlobCause : SourceView → Blob → ReadFault → SourceView → Type 0
-IsBlobCause old blob (Refused found) new = (is_blob_kind found.kind ≡ true) × IfSome old.held (λ file. blob_fault file blob ≡ Some found)
+IsBlobCause old blob (Refused found) new = (is_blob_kind found.kind ≡ true) × IfSome old.held (λ file. stated_blob_fault file blob ≡ Some found)
 IsBlobCause old blob Source new = Rose old.faults new.faults
 
 pub record OpensNoBlob (old : SourceView) (kept : List ℕ) (blob : Blob) (found : ReadFault) (new : SourceView) (now : List ℕ) : Type 0 where
@@ -67,7 +67,7 @@ JudgesBlobPlace old blob result new =
 -- The blob's bytes from the one with number `at` on were read, as many as `out` has.
 pub record ReadsBlob (old : SourceView) (kept : List ℕ) (blob : Blob) (at count : ℕ) (out : List ℕ) (new : SourceView) (now : List ℕ) : Type 0 where
   pub range : ReadsRange old kept (blob_start blob + at) count out new now
-  pub bytes : IfSome old.held (λ file. out ≡ take count (drop at (blob_bytes file blob)))
+  pub bytes : IfSome old.held (λ file. out ≡ take count (drop at (stated_blob_bytes file blob)))
 
 -- The read of these bytes stopped at a page that failed or is wrong. Those before it were read.
 abbrev pub CutsBlob : SourceView → List ℕ → Blob → ℕ → List ℕ → Cut → List ℕ → SourceView → List ℕ → Type 0

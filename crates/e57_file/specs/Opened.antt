@@ -16,17 +16,17 @@ use Rattle.e57_elements.specs.Spells.{Spells}
 use Rattle.e57_layout.specs.declared.field.Field.{Field}
 use Rattle.e57_nodes.specs.Shape.{shape_of}
 use Rattle.e57_nodes.specs.Typed.{typed_fault}
-use Rattle.e57_file.specs.Text.{section_fault, section_text, IsTextFault, is_text_kind}
+use Rattle.e57_file.specs.Text.{xml_fault, section_text, IsTextFault, is_text_kind}
 
 -- The XML section has its place and its pages, and its text spells this lawful tree.
-pub record HasTree (file : List ℕ) (tree : Element) : Type 0 where
-  pub sound : section_fault file ≡ None
+pub record HasXmlTree (file : List ℕ) (tree : Element) : Type 0 where
+  pub sound : xml_fault file ≡ None
   pub spells : Spells (section_text file) tree
   pub is_lawful : IsLawful tree
 
 -- The first fault of the section, its text included, or else of a node of the tree that the text spells.
 abbrev pub IsTreeFault : List ℕ → Fault → Type 0
-IsTreeFault file found = IsTextFault file found ⊎ ((tree : Element) × HasTree file tree × (typed_fault (shape_of tree) ≡ Some found))
+IsTreeFault file found = IsTextFault file found ⊎ ((tree : Element) × HasXmlTree file tree × (typed_fault (shape_of tree) ≡ Some found))
 
 -- a kind of fault that a node can have
 abbrev pub is_node_kind : Kind → Bool
@@ -49,7 +49,7 @@ is_tree_kind kind = is_text_kind kind || is_node_kind kind
 pub record HasNodes (file : List ℕ) (nodes : List RawNode) : Type 0 where
   pub tree : Element
   pub in_preorder : nodes ≡ preorder tree
-  pub has : HasTree file tree
+  pub has : HasXmlTree file tree
   pub typed : typed_fault (shape_of tree) ≡ None
 
 -- why the file was not opened: its first fault, or the source failed, or memory ran out

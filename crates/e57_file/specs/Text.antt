@@ -16,8 +16,8 @@ use Rattle.e57_elements.specs.Spells.{Reads}
 use Rattle.e57_elements.specs.Fault.{IsFirstFault}
 
 -- the first fault of a file's XML section before its text: of its place, its length, its pages
-abbrev pub section_fault : List ℕ → Option Fault
-section_fault file = xml_section_fault (header_of file) file
+abbrev pub xml_fault : List ℕ → Option Fault
+xml_fault file = xml_section_fault (header_of file) file
 
 -- the text of a file's XML section
 abbrev pub section_text : List ℕ → List ℕ
@@ -25,7 +25,7 @@ section_text file = xml_text (header_of file) file
 
 -- The first fault of the section, its text included.
 abbrev pub IsTextFault : List ℕ → Fault → Type 0
-IsTextFault file found = (section_fault file ≡ Some found) ⊎ ((section_fault file ≡ None) × IsFirstFault (section_text file) found)
+IsTextFault file found = (xml_fault file ≡ Some found) ⊎ ((xml_fault file ≡ None) × IsFirstFault (section_text file) found)
 
 -- Pages of the section that the file has, and no other, were asked for, in ascending order, each at most once, and none
 -- that was kept.
@@ -64,7 +64,7 @@ JudgesPlace old result new =
 
 -- The text was read, and these are the nodes of the lawful tree that it spells.
 pub record IsTextRead (old : SourceView) (nodes : List RawNode) : Type 0 where
-  pub sound : IfSome old.held (λ file. section_fault file ≡ None)
+  pub sound : IfSome old.held (λ file. xml_fault file ≡ None)
   pub tree : IfSome old.held (λ file. Reads (section_text file) nodes)
 
 -- why the text was not read: its first fault, or the source failed, or memory ran out

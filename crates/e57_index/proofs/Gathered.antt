@@ -5,29 +5,30 @@ use Rattle.std.specs.Option.{option_or}
 use Rattle.std.proofs.Common.{refl, sym, ap, subst, ◌∙◌, arith}
 use Rattle.std.proofs.lemmas.List.{append_assoc, append-nil}
 use Rattle.std.proofs.lemmas.Bool.{eq-eqb, eqb-true, ltb-false}
-use Rattle.e57_base.specs.Count.{rose_before}
+use Rattle.e57_base.proofs.CountLaws.{rose_before}
 use Rattle.e57_base.specs.Fault.{read_as_open}
 use Rattle.e57_base.specs.Source.{SourceView}
-use Rattle.e57_base.specs.Told.{told_map, told_both, told_here}
+use Rattle.e57_base.proofs.Told.{told_map, told_both, told_here, told_all}
 use Rattle.e57_base.specs.declared.fault.Fault.{Fault}
 use Rattle.e57_base.specs.declared.fault.ReadFault.{ReadFault}
 use Rattle.e57_base.specs.declared.fault.ReadFault.TheVariants as of_read
 use Rattle.e57_base.specs.declared.fault.OpenFault.{OpenFault}
 use Rattle.e57_base.specs.declared.fault.OpenFault.TheVariants.{Refused, Source, Memory}
-use Rattle.e57_page.specs.PagesLaws.{asks_for_none, asks_for_on}
+use Rattle.e57_page.proofs.PagesLaws.{asks_for_none, asks_for_on}
 use Rattle.e57_layout.specs.declared.packet.Entry.{Entry}
 use Rattle.e57_layout.specs.declared.packet.IndexHead.{IndexHead}
 use Rattle.e57_layout.specs.declared.section.Section.{Section}
 use Rattle.e57_layout.specs.IndexPackets.{entries_at}
-use Rattle.e57_sections.specs.Index.{begins_and_rises, next_first, entries_of, each_fault, entry_fault, entries_below, index_fault, index_packet_fault, root_fault, root_level, root_entry, entries as the_entries}
-use Rattle.e57_sections.specs.Laws.Indexes.{Rises, rises-from, rises-lower, next_first-append}
+use Rattle.e57_cloud.specs.Index.{begins_and_rises, next_first, entries_of, each_fault, entry_fault, entries_below, index_fault, index_packet_fault, root_fault, root_level, root_entry, entries as the_entries, Rises}
+use Rattle.e57_cloud.proofs.Laws.Indexes.{rises-from, rises-lower, next_first-append}
 use Rattle.e57_index.specs.Asking.{InSection, AsksMet}
 use Rattle.e57_index.specs.OnePacket.{level_of, level_fits, wanted_fault, OnPacket, IsPacketAt}
 use Rattle.e57_index.specs.Reading.{ReadsIndex, LosesIndex, ReadsTarget, LosesTarget}
 use Rattle.e57_index.specs.Gathering.{AsksInside, IsAmongData, HaveRecords, branch_fault, branch_entries, Gathers, IsGatherCause, GathersNot, GathersIndex, GathersNoIndex}
-use Rattle.e57_index.proofs.Asked.{each-append, told_each}
 use Rattle.e57_index.proofs.Judged.{not_is, level_is, no_fault}
 use Rattle.e57_index.proofs.Ways.{first_is}
+use Rattle.e57_base.proofs.Options.{option_or_assoc}
+use Rattle.e57_base.proofs.Lists.{all_append}
 
 -- ---- pages
 
@@ -35,7 +36,7 @@ pub inside : (s : Section) (met : List ℕ → ℕ → Type 0) (a b : SourceView
 inside s met a b asks = record { pages = asks.pages; asks = asks.asks; within = asks.within }
 
 pub inside-on : (s : Section) (a b c : SourceView) → AsksInside s a b → AsksInside s b c → AsksInside s a c
-inside-on s a b c f g = record { pages = f.pages ++ g.pages; asks = asks_for_on f.pages g.pages f.asks g.asks; within = each-append (InSection s) f.pages g.pages f.within g.within }
+inside-on s a b c f g = record { pages = f.pages ++ g.pages; asks = asks_for_on f.pages g.pages f.asks g.asks; within = all_append (InSection s) f.pages g.pages f.within g.within }
 
 -- ---- records
 
@@ -83,7 +84,7 @@ target_taken old new s e q bound had have is low read =
       has = is;
       records = record { begins = refl; rise = (omega arith, low, tt); among = (among old new s e q read, tt) };
       sound = read.sound;
-      is = told_each (λ file. e ∷ [] ≡ entries_below file 0 e) old.held (λ file. refl);
+      is = told_all (λ file. e ∷ [] ≡ entries_below file 0 e) old.held (λ file. refl);
     }
 
 pub target_lost : (old new : SourceView) (s : Section) (e : Entry) (bound : ℕ) (found : ReadFault) → LosesTarget old s e found new → GathersNot s (λ file. entry_fault file s 0 e bound) old (read_as_open found) new
@@ -114,7 +115,7 @@ walks-none s first bound height es old had ordered =
       has = sym (append-nil had);
       records = record { begins = up.1; rise = tt; among = tt };
       up = rw up.1 up.0;
-      is = told_each (λ file. (each_fault (entry_fault file s height) bound es ≡ each_fault (entry_fault file s height) bound es) × (flat_map (entries_below file height) es ≡ [] ++ flat_map (entries_below file height) es)) old.held (λ file. (refl, refl));
+      is = told_all (λ file. (each_fault (entry_fault file s height) bound es ≡ each_fault (entry_fault file s height) bound es) × (flat_map (entries_below file height) es ≡ [] ++ flat_map (entries_below file height) es)) old.held (λ file. (refl, refl));
     }
 
 -- the first entry that is left begins below the record at which it ends
@@ -216,15 +217,9 @@ walk_done old mid new s wanted e bound head bytes had have read walks =
       is = told_map (λ file. (branch_fault file s wanted e bound ≡ None) × (walks.added ≡ branch_entries file wanted e)) (λ file. walks.added ≡ branch_entries file wanted e) old.held (λ file both. both.1) all;
     }
 
--- ---- the whole index
-
-turn : (a b c : Option Fault) → option_or (option_or a b) c ≡ option_or a (option_or b c)
-turn None b c = refl
-turn (Some x) b c = refl
-
 root_branch : (file : List ℕ) (s : Section) → branch_fault file s None (root_entry s) s.count ≡ index_fault file s
 unfolding index_fault root_fault root_level entry_fault
-root_branch file s = turn (root_fault file s) (index_packet_fault file s (root_level file s) (root_entry s) s.count) (each_fault (entry_fault file s (root_level file s)) s.count (entries_of file s.index))
+root_branch file s = option_or_assoc (root_fault file s) (index_packet_fault file s (root_level file s) (root_entry s) s.count) (each_fault (entry_fault file s (root_level file s)) s.count (entries_of file s.index))
 
 root_entries : (file : List ℕ) (s : Section) → branch_entries file None (root_entry s) ≡ the_entries file s
 unfolding the_entries root_level entries_below

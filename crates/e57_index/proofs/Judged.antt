@@ -13,10 +13,10 @@ use Rattle.e57_layout.specs.Written.{entries_limit}
 use Rattle.e57_layout.specs.IndexPackets.{index_size, entry_count_at, level_at}
 use Rattle.e57_layout.specs.declared.packet.Entry.{Entry}
 use Rattle.e57_layout.specs.declared.section.Section.{Section}
-use Rattle.e57_sections.specs.Section.{when}
-use Rattle.e57_sections.specs.Index.{highest_level, known_place, begins_and_rises, is_misshapen_index, index_start_fault, index_shape_fault, index_packet_fault}
-use Rattle.e57_sections.specs.Laws.Spans.{or-none}
+use Rattle.e57_cloud.specs.Section.{when}
+use Rattle.e57_cloud.specs.Index.{highest_level, known_place, begins_and_rises, is_misshapen_index, index_start_fault, index_shape_fault, index_packet_fault}
 use Rattle.e57_index.specs.OnePacket.{level_fits, level_of, start_fault, wanted_fault, IsPacketAt}
+use Rattle.e57_base.proofs.Options.{option_or_parts}
 
 pub not_is : (t : Bool) → not t ≡ true → t ≡ false
 not_is true e = sym e
@@ -28,7 +28,7 @@ not_isn't false e = sym e
 
 pub no_start_fault : (file : List ℕ) (s : Section) (level offset : ℕ) → index_shape_fault file s level offset ≡ None → index_start_fault file s offset (place offset) ≡ None
 unfolding index_shape_fault
-no_start_fault file s level offset none = (or-none (index_start_fault file s offset (place offset)) (when (is_misshapen_index (logical file) s level (known_place offset)) (fault IndexShape s.node offset)) none).0
+no_start_fault file s level offset none = (option_or_parts (index_start_fault file s offset (place offset)) (when (is_misshapen_index (logical file) s level (known_place offset)) (fault IndexShape s.node offset)) none).0
 
 -- ---- the level
 

@@ -1,10 +1,10 @@
 -- The reading of one index packet, step by step.
 use Rattle.std.specs.Prelude.{◌≡◌, ℕ, ◌+◌, ◌*◌, ◌/◌, true, false, List, take, drop, Option, Some, None, IfSome}
 use Rattle.std.proofs.Common.{refl, sym, ap, arith, inl, inr}
-use Rattle.e57_base.specs.Count.{rose_before}
+use Rattle.e57_base.proofs.CountLaws.{rose_before}
 use Rattle.e57_base.specs.Fault.{fault}
 use Rattle.e57_base.specs.Source.{SourceView}
-use Rattle.e57_base.specs.Told.{told_map, told_both, told_here}
+use Rattle.e57_base.proofs.Told.{told_map, told_both, told_here, told_all}
 use Rattle.e57_base.specs.declared.fault.ReadFault.{ReadFault}
 use Rattle.e57_base.specs.declared.fault.ReadFault.TheVariants.{Refused, Source}
 use Rattle.e57_base.specs.declared.kind.Kind.TheVariants.{IndexShape, IndexOrder}
@@ -14,16 +14,16 @@ use Rattle.e57_page.specs.Pages.{AsksUnkept}
 use Rattle.e57_layout.specs.IndexPackets.{entry_count_at, entries_at}
 use Rattle.e57_layout.specs.declared.packet.Entry.{Entry}
 use Rattle.e57_layout.specs.declared.section.Section.{Section}
-use Rattle.e57_sections.specs.Section.{or_zero}
-use Rattle.e57_sections.specs.Index.{known_place, entries_of, begins_and_rises, index_shape_fault}
-use Rattle.e57_sections.specs.Met.{InSpan, InIndexStart}
+use Rattle.e57_cloud.specs.Section.{or_zero}
+use Rattle.e57_cloud.specs.Index.{known_place, entries_of, begins_and_rises, index_shape_fault}
+use Rattle.e57_cloud.specs.Met.{InSpan, InIndexStart}
 use Rattle.e57_section.specs.Steps.{IsSpanCause}
 use Rattle.e57_index.specs.declared.start.Start.{Start}
 use Rattle.e57_index.specs.Asking.{AsksMet}
 use Rattle.e57_index.specs.OnePacket.{level_fits, wanted_fault, OnPacket, IsPacketAt}
 use Rattle.e57_index.specs.Reading.{AsksStart, IsStartAt, ReadsStart, LosesStart, ReadsIndex, LosesIndex}
 use Rattle.e57_index.proofs.Moved.{entries-piece}
-use Rattle.e57_index.proofs.Asked.{told_each, asks_met-on, asks_met-by, asks_met-span}
+use Rattle.e57_index.proofs.Asked.{asks_met-on, asks_met-by, asks_met-span}
 use Rattle.e57_index.proofs.Judged.{level_is, start_none, level_fault, early_fault, late_fault, order_fault}
 
 pub known_is : (offset q : ℕ) → place offset ≡ Some q → known_place offset ≡ q
@@ -33,7 +33,7 @@ known_is offset q is = ap (λ (at : Option ℕ). or_zero at) is
 pub asks_first : (s : Section) (wanted : Option ℕ) (e : Entry) (a b : SourceView) → AsksStart s e.place a b → AsksMet s (OnPacket s wanted e) a b
 asks_first s wanted e a b asks =
     asks_met-by s (λ file p. InIndexStart s e.place p) (OnPacket s wanted e) a b
-    (told_each (λ file. (p : ℕ) → InIndexStart s e.place p → OnPacket s wanted e file p) a.held (λ file p is. inl is)) asks
+    (told_all (λ file. (p : ℕ) → InIndexStart s e.place p → OnPacket s wanted e file p) a.held (λ file p is. inl is)) asks
 
 -- the start had a fault
 pub lost_start : (old new : SourceView) (s : Section) (wanted : Option ℕ) (e : Entry) (bound : ℕ) (found : ReadFault) → LosesStart old s e.place found new → LosesIndex old s wanted e bound found new

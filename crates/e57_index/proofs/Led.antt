@@ -6,21 +6,20 @@ use Rattle.std.proofs.lemmas.Bool.{eqb-false}
 use Rattle.e57_base.specs.declared.fault.Fault.{Fault}
 use Rattle.e57_layout.specs.declared.packet.Entry.{Entry}
 use Rattle.e57_layout.specs.declared.section.Section.{Section}
-use Rattle.e57_sections.specs.Index.{known_place, entries_of, index_packet_fault, target_fault, root_fault, root_level, root_entry}
-use Rattle.e57_sections.specs.PathItem.{ChunkAt, unless, by_entry, descend, path}
-use Rattle.e57_sections.specs.Met.{InIndexStart, InEntries, InTarget, OnPicked, OnDescent, OnPath}
-use Rattle.e57_sections.specs.Laws.Spans.{or-none}
-use Rattle.e57_sections.specs.Laws.Indexes.{Rises}
-use Rattle.e57_sections.specs.Laws.Descents.{HasEntry, entry-within, pick-is, packet-entries}
+use Rattle.e57_cloud.specs.Index.{known_place, entries_of, index_packet_fault, target_fault, root_fault, root_level, root_entry, Rises, HasEntry}
+use Rattle.e57_cloud.specs.PathItem.{ChunkAt, unless, descend, path}
+use Rattle.e57_cloud.specs.Met.{InIndexStart, InEntries, InTarget, OnPicked, OnDescent, OnPath}
+use Rattle.e57_cloud.proofs.Laws.Descents.{entry-within, pick-is, packet-entries, by_entry-is}
 use Rattle.e57_index.specs.OnePacket.{wanted_fault, OnPacket}
 use Rattle.e57_index.specs.Standing.{IsLed, AreLed}
+use Rattle.e57_base.proofs.Options.{option_or_parts}
 
 -- ---- the root
 
 pub root_led : (file : List ℕ) (s : Section) → (s.index == 0) ≡ false → wanted_fault file s None (root_entry s) s.count ≡ None → AreLed file s (suc (root_level file s)) (root_entry s) s.count
 unfolding path root_fault root_level
 root_led file s indexed none i low high =
-    let start = (or-none (root_fault file s) (index_packet_fault file s (root_level file s) (root_entry s) s.count) none).0 in
+    let start = (option_or_parts (root_fault file s) (index_packet_fault file s (root_level file s) (root_entry s) s.count) none).0 in
     record { leads = rw (indexed, start) refl; pages = λ p on. (eqb-false s.index 0 indexed, inr (start, on)) }
 
 first_err : (a b : Option Fault) (result : Result ChunkAt Fault) (found : Fault) → option_or a b ≡ Some found → unless a (unless b result) ≡ Err found
@@ -54,10 +53,6 @@ packet_met file s level e bound i p led on =
     (λ (start : InIndexStart s e.place p). led.pages p (inl start))
     (λ (rest : (◌≡◌ {A = Option Fault} None None) × InEntries file s level e.place p). led.pages p (inr (inl rest.1)))
     on
-
-by_entry-is : (f : Entry → ℕ → Result ChunkAt Fault) (i least bound : ℕ) (es : List Entry) (e : Entry) (until : ℕ) → Rises least bound es → HasEntry bound es e until → e.first ≤ i → i < until → by_entry f i bound es ≡ f e until
-by_entry-is f i least bound [] e until up has low high = absurd has
-by_entry-is f i least bound (x ∷ xs) e until up has low high = rw (pick-is i least bound x xs e until up has low high) refl
 
 on_picked : (f : Entry → ℕ → Type 0) (i least bound : ℕ) (es : List Entry) (e : Entry) (until : ℕ) → Rises least bound es → HasEntry bound es e until → e.first ≤ i → i < until → f e until → OnPicked f i bound es
 on_picked f i least bound [] e until up has low high is = absurd has

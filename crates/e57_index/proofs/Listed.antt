@@ -2,8 +2,7 @@
 use Rattle.std.proofs.Common.{◌≡◌, ℕ, zero, suc, ◌+◌, ◌-◌, ◌*◌, ◌<◌, ◌≤◌, true, false, List, [], ◌∷◌, refl, arith, inl, inr}
 use Rattle.std.proofs.lemmas.Bool.{lt-ltb, le-ltb, lt-leb, le-leb, eq-eqb, ne_eqb}
 use Rattle.e57_layout.specs.IndexPackets.{entry_at, entries_at}
-use Rattle.e57_sections.specs.Index.{rises, begins_and_rises, next_first}
-use Rattle.e57_sections.specs.Laws.Descents.{HasEntry}
+use Rattle.e57_cloud.specs.Index.{rises, begins_and_rises, next_first, HasEntry}
 
 pub entries-zero : (b : List ℕ) (q : ℕ) → entries_at b q 0 ≡ []
 unfolding entries_at

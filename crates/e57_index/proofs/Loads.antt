@@ -3,18 +3,18 @@ use Rattle.std.specs.Prelude.{◌≡◌, ℕ, ◌*◌, true, false, List, take, 
 use Rattle.std.proofs.Common.{refl, subst}
 use Rattle.e57_base.specs.Fault.{fault}
 use Rattle.e57_base.specs.Source.{SourceView}
-use Rattle.e57_base.specs.Told.{told_map}
+use Rattle.e57_base.proofs.Told.{told_map, told_all}
 use Rattle.e57_base.specs.declared.fault.ReadFault.{ReadFault}
 use Rattle.e57_base.specs.declared.fault.ReadFault.TheVariants.{Refused, Source}
 use Rattle.e57_base.specs.declared.kind.Kind.TheVariants.{IndexShape, IndexOrder}
 use Rattle.e57_layout.specs.declared.packet.Entry.{Entry}
 use Rattle.e57_layout.specs.declared.packet.IndexHead.{IndexHead}
-use Rattle.e57_sections.specs.Index.{begins_and_rises}
+use Rattle.e57_cloud.specs.Index.{begins_and_rises}
 use Rattle.e57_index.specs.OnePacket.{level_fits, wanted_fault, OnPacket, IsPacketAt}
 use Rattle.e57_index.specs.Reading.{ReadsIndex, LosesIndex}
 use Rattle.e57_index.specs.Standing.{HeldPacket, Cursor, IsOfFile, StandsIn}
 use Rattle.e57_index.specs.Holding.{front_entries, LoadsIndex, LosesLoad}
-use Rattle.e57_index.proofs.Asked.{told_each, asks_met-none}
+use Rattle.e57_index.proofs.Asked.{asks_met-none}
 use Rattle.e57_index.proofs.Judged.{level_fault, order_fault}
 
 -- ---- read
@@ -59,7 +59,7 @@ lost_level_held old before h wanted e bound is same other =
       source = asks_met-none before.section (OnPacket before.section wanted e) old;
       cause = (
         refl,
-        told_each (λ file. StandsIn file before → wanted_fault file before.section wanted e bound ≡ Some (fault IndexShape before.section.node e.place)) old.held
+        told_all (λ file. StandsIn file before → wanted_fault file before.section wanted e bound ≡ Some (fault IndexShape before.section.node e.place)) old.held
             (λ file stands. let at = held_is file before h e is same stands in level_fault file before.section wanted e bound h.level at.shape at.of_level other),
       );
       kept = λ file stands. stands;
@@ -71,7 +71,7 @@ lost_order_held old before h wanted e bound is same fits wrong =
       source = asks_met-none before.section (OnPacket before.section wanted e) old;
       cause = (
         refl,
-        told_each (λ file. StandsIn file before → wanted_fault file before.section wanted e bound ≡ Some (fault IndexOrder before.section.node e.place)) old.held
+        told_all (λ file. StandsIn file before → wanted_fault file before.section wanted e bound ≡ Some (fault IndexOrder before.section.node e.place)) old.held
             (λ file stands. order_fault file before.section wanted e bound h.level h.entries (held_is file before h e is same stands) fits wrong),
       );
       kept = λ file stands. stands;
@@ -89,5 +89,5 @@ loaded_held old before after h wanted e bound is same fits right held =
       fits = fits;
       ordered = right;
       source = asks_met-none before.section (OnPacket before.section wanted e) old;
-      is = told_each (λ file. StandsIn file before → IsPacketAt file before.section e.place h.level h.entries) old.held (λ file stands. held_is file before h e is same stands);
+      is = told_all (λ file. StandsIn file before → IsPacketAt file before.section e.place h.level h.entries) old.held (λ file stands. held_is file before h e is same stands);
     }

@@ -1,20 +1,8 @@
 -- What is read of a piece of bytes is what is read where the piece stands.
-use Rattle.std.proofs.Common.{◌≡◌, ℕ, zero, suc, ◌+◌, ◌*◌, ◌≤◌, List, take, drop, refl, ap, ◌∙◌, arith}
+use Rattle.std.proofs.Common.{◌≡◌, ℕ, zero, suc, ◌+◌, ◌*◌, ◌≤◌, List, take, drop, refl, arith}
 use Rattle.e57_bits.specs.Bits.{number}
-use Rattle.e57_bits.specs.BitLaws.{number-take, number-drop}
-use Rattle.e57_layout.specs.Packets.{sort_at, length_at}
 use Rattle.e57_layout.specs.IndexPackets.{entry_count_at, level_at, entry_at, entries_at}
-
-pub number-piece : (b : List ℕ) (q n t u w : ℕ) → t + w ≤ 8 * n → u ≡ 8 * q + t → number (take n (drop q b)) t w ≡ number b u w
-number-piece b q n t u w h e = number-take (drop q b) n t w h ∙ number-drop b q t w ∙ rw e refl
-
-pub sort-piece : (b : List ℕ) (q n : ℕ) → 4 ≤ n → sort_at (take n (drop q b)) 0 ≡ sort_at b q
-unfolding sort_at
-sort-piece b q n h = number-piece b q n 0 (8 * q) 8 (omega arith) (omega arith)
-
-pub length-piece : (b : List ℕ) (q n : ℕ) → 4 ≤ n → length_at (take n (drop q b)) 0 ≡ length_at b q
-unfolding length_at
-length-piece b q n h = ap (λ x. x + 1) (number-piece b q n 16 (8 * q + 16) 16 (omega arith) refl)
+use Rattle.e57_section.proofs.Moved.{number-piece}
 
 pub count-piece : (b : List ℕ) (q n : ℕ) → 16 ≤ n → entry_count_at (take n (drop q b)) 0 ≡ entry_count_at b q
 unfolding entry_count_at

@@ -2,19 +2,18 @@
 use Rattle.std.specs.Prelude.{◌≡◌, ℕ, ◌+◌, ◌*◌, ◌/◌, true, List, [], ◌∷◌, ◌++◌, Option, Some}
 use Rattle.std.proofs.Common.{refl, sym, arith}
 use Rattle.e57_base.specs.Source.{SourceView}
-use Rattle.e57_base.specs.Told.{told_map}
+use Rattle.e57_base.proofs.Told.{told_map, told_all}
 use Rattle.e57_page.specs.Place.{place, span_end}
 use Rattle.e57_page.specs.File.{logical}
 use Rattle.e57_page.specs.Pages.{AsksUnkept}
 use Rattle.e57_layout.specs.IndexPackets.{entry_count_at, level_at}
 use Rattle.e57_layout.specs.declared.packet.Entry.{Entry}
 use Rattle.e57_layout.specs.declared.section.Section.{Section}
-use Rattle.e57_sections.specs.Index.{known_place}
+use Rattle.e57_cloud.specs.Index.{known_place}
 use Rattle.e57_index.specs.declared.start.Start.{Start}
 use Rattle.e57_index.specs.OnePacket.{level_of, level_fits, start_fault}
 use Rattle.e57_index.specs.Reading.{IsStartAt, ReadsStart}
 use Rattle.e57_index.specs.Spans.{Span, AskedAs, AsksSpans, unless_fault, start_spans, entries_spans, packet_spans}
-use Rattle.e57_index.proofs.Asked.{told_each}
 use Rattle.e57_index.proofs.Judged.{level_is, start_none}
 use Rattle.e57_index.proofs.Judging.{known_is}
 use Rattle.e57_index.proofs.Spanned.{asked-on, asked-front, asks_spans-one, asks_spans-on, asks_spans-by}
@@ -23,7 +22,7 @@ use Rattle.e57_index.proofs.Spanned.{asked-on, asked-front, asks_spans-one, asks
 pub asks_start_spans : (s : Section) (wanted : Option ℕ) (e : Entry) (a b : SourceView) → AsksSpans s 1 (λ file. AskedAs (start_spans s e.place)) a b → AsksSpans s 2 (λ file. AskedAs (packet_spans file s wanted e)) a b
 asks_start_spans s wanted e a b asks =
     asks_spans-by s 1 2 (λ file. AskedAs (start_spans s e.place)) (λ file. AskedAs (packet_spans file s wanted e)) a b (omega arith)
-    (told_each (λ file. (p : List ℕ) → AskedAs (start_spans s e.place) p → AskedAs (packet_spans file s wanted e) p) a.held
+    (told_all (λ file. (p : List ℕ) → AskedAs (start_spans s e.place) p → AskedAs (packet_spans file s wanted e) p) a.held
     (λ file p asked. asked-front (start_spans s e.place) (unless_fault (start_fault file s wanted e) (entries_spans file s (level_of file wanted e) e.place)) p asked)) asks
 
 -- the entries of a packet whose start has no fault
@@ -48,4 +47,4 @@ asks_packet_spans s wanted e start kept old mid new read fits first asks =
     (λ file is p q x y. rw (sound_spans file s wanted e start read.at is fits) (asked-on (start_spans s e.place) entries p q x y)) read.is)
     first
     (asks_spans-one s (λ file. AskedAs entries) kept (start.place + 16) (16 * start.entries) mid new (omega (arith, after)) read.within
-    (told_each (λ file. (p : List ℕ) → AskedAs entries p → AskedAs entries p) mid.held (λ file p asked. asked)) asks)
+    (told_all (λ file. (p : List ℕ) → AskedAs entries p → AskedAs entries p) mid.held (λ file p asked. asked)) asks)

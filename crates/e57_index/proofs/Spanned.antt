@@ -5,13 +5,12 @@ use Rattle.std.proofs.Common.{refl, sym, ap, ◌∙◌, arith}
 use Rattle.std.proofs.lemmas.List.{append_assoc, append-nil}
 use Rattle.std.proofs.lemmas.Bool.{le-leb}
 use Rattle.e57_base.specs.Source.{SourceView}
-use Rattle.e57_base.specs.Told.{told_map, told_both, told_here}
+use Rattle.e57_base.proofs.Told.{told_map, told_both, told_here, told_all}
 use Rattle.e57_page.specs.Place.{span_end, RisesWithin}
 use Rattle.e57_page.specs.Pages.{AsksUnkept}
-use Rattle.e57_page.specs.PagesLaws.{asks_for_none, asks_for_on}
+use Rattle.e57_page.proofs.PagesLaws.{asks_for_none, asks_for_on}
 use Rattle.e57_layout.specs.declared.section.Section.{Section}
 use Rattle.e57_index.specs.Spans.{Span, AskedAs, IsSpanOf, AsksSpans, within_spans}
-use Rattle.e57_index.proofs.Asked.{told_each}
 
 -- ---- lists
 
@@ -45,7 +44,7 @@ length-append (x ∷ xs) ys = let rest = length-append xs ys in omega (arith, re
 
 -- nothing was asked for
 pub asks_spans-none : (s : Section) (most : ℕ) (met : List ℕ → List ℕ → Type 0) (a : SourceView) → ((file : List ℕ) → met file []) → AsksSpans s most met a a
-asks_spans-none s most met a each = record { pages = []; asks = asks_for_none a; spans = []; few = omega arith; within = tt; asked = refl; told = told_each (λ file. met file []) a.held each }
+asks_spans-none s most met a each = record { pages = []; asks = asks_for_none a; spans = []; few = omega arith; within = tt; asked = refl; told = told_all (λ file. met file []) a.held each }
 
 -- pages of one span
 pub asks_spans-one : (s : Section) (met : List ℕ → List ℕ → Type 0) (kept : List ℕ) (q n : ℕ) (a b : SourceView) → s.start ≤ q → q + n ≤ s.end
@@ -103,7 +102,7 @@ inside_is low high n at q is above below = rw (is, le-leb low q above, le-leb (q
 pub asks_there : (s : Section) (low n : ℕ) (at : Option ℕ) (kept : List ℕ) (q : ℕ) (a b : SourceView) → s.start ≤ low → at ≡ Some q → low ≤ q → q + n ≤ s.end → AsksUnkept kept (q / 1020) (span_end q n) a b → AsksSpans s 1 (λ file. AskedAs (within_spans low s.end n at)) a b
 asks_there s low n at kept q a b start is above below asks =
     asks_spans-one s (λ file. AskedAs (within_spans low s.end n at)) kept q n a b (omega (arith, start, above)) below
-    (told_each (λ file. (pages : List ℕ) → AskedAs (record { place = q; size = n } ∷ []) pages → AskedAs (within_spans low s.end n at) pages) a.held (λ file pages asked. rw (inside_is low s.end n at q is above below) asked)) asks
+    (told_all (λ file. (pages : List ℕ) → AskedAs (record { place = q; size = n } ∷ []) pages → AskedAs (within_spans low s.end n at) pages) a.held (λ file pages asked. rw (inside_is low s.end n at q is above below) asked)) asks
 
 pub asks_nothing : (s : Section) (most : ℕ) (spans : List ℕ → List Span) (a : SourceView) → AsksSpans s most (λ file. AskedAs (spans file)) a a
 asks_nothing s most spans a = asks_spans-none s most (λ file. AskedAs (spans file)) a (λ file. asked-none (spans file))

@@ -4,7 +4,7 @@ use Rattle.std.proofs.Common.{refl, sym, subst, ◌∙◌, arith, lit≤}
 use Rattle.std.proofs.lemmas.Bool.{lt-ltb, le-ltb}
 use Rattle.e57_base.specs.Fault.{fault}
 use Rattle.e57_base.specs.Source.{SourceView}
-use Rattle.e57_base.specs.Told.{told_map, told_both}
+use Rattle.e57_base.proofs.Told.{told_map, told_both, told_all}
 use Rattle.e57_base.specs.declared.fault.ReadFault.{ReadFault}
 use Rattle.e57_base.specs.declared.fault.ReadFault.TheVariants.{Refused, Source}
 use Rattle.e57_base.specs.declared.kind.Kind.TheVariants.{IndexTarget}
@@ -15,14 +15,14 @@ use Rattle.e57_layout.specs.declared.packet.Entry.{Entry}
 use Rattle.e57_layout.specs.declared.section.Section.{Section}
 use Rattle.e57_bits.specs.Bits.{number}
 use Rattle.e57_layout.specs.Packets.{sort_at, restart_at, packet_head_at}
-use Rattle.e57_layout.specs.Laws.Layouts.{restart_at-flags}
-use Rattle.e57_sections.specs.Section.{when}
-use Rattle.e57_sections.specs.Met.{InSpan, InTarget}
-use Rattle.e57_sections.specs.Index.{is_target, target_fault}
+use Rattle.e57_layout.proofs.Laws.Layouts.{restart_at-flags}
+use Rattle.e57_cloud.specs.Section.{when}
+use Rattle.e57_cloud.specs.Met.{InSpan, InTarget}
+use Rattle.e57_cloud.specs.Index.{is_target, target_fault}
 use Rattle.e57_section.specs.Steps.{IsSpanCause}
 use Rattle.e57_index.specs.Reading.{AsksTarget, IsTargetCause}
-use Rattle.e57_index.proofs.Moved.{sort-piece, number-piece}
-use Rattle.e57_index.proofs.Asked.{told_each, asks_met-span}
+use Rattle.e57_index.proofs.Asked.{asks_met-span}
+use Rattle.e57_section.proofs.Moved.{sort-piece, number-piece}
 
 same_test : (a r z : Bool) → (a && (r || z)) ≡ (a && ((a && r) || z))
 same_test true r z = refl
@@ -46,24 +46,24 @@ target-piece b q e = rw (sort-piece b q 4 (lit≤ tt), restart-piece b q) refl
 pub asks_target : (s : Section) (kept : List ℕ) (e : Entry) (q : ℕ) (a b : SourceView) → s.start ≤ s.data_place → place e.place ≡ Some q → s.data_place ≤ q → q + 4 ≤ s.end → AsksUnkept kept (q / 1020) (span_end q 4) a b → AsksTarget s e a b
 asks_target s kept e q a b first is low high asks =
     asks_met-span s (λ file p. InTarget s e p) kept q 4 a b (omega (arith, first, low)) high
-    (told_each (λ file. (p : ℕ) → InSpan q 4 p → InTarget s e p) a.held (λ file p within. rw is (low, high, within))) asks
+    (told_all (λ file. (p : ℕ) → InSpan q 4 p → InTarget s e p) a.held (λ file p within. rw is (low, high, within))) asks
 
 pub no_target : (old new : SourceView) (s : Section) (e : Entry) → place e.place ≡ None → IsTargetCause old s e (Refused (fault IndexTarget s.node e.first)) new
 unfolding target_fault
-no_target old new s e none = (refl, told_each (λ file. target_fault file s e ≡ Some (fault IndexTarget s.node e.first)) old.held (λ file. rw none refl))
+no_target old new s e none = (refl, told_all (λ file. target_fault file s e ≡ Some (fault IndexTarget s.node e.first)) old.held (λ file. rw none refl))
 
 pub before_data : (old new : SourceView) (s : Section) (e : Entry) (q : ℕ) → place e.place ≡ Some q → q < s.data_place → IsTargetCause old s e (Refused (fault IndexTarget s.node e.first)) new
 unfolding target_fault
 before_data old new s e q is low =
     let test = lt-ltb q s.data_place low in
-    (refl, told_each (λ file. target_fault file s e ≡ Some (fault IndexTarget s.node e.first)) old.held (λ file. rw (is, test) refl))
+    (refl, told_all (λ file. target_fault file s e ≡ Some (fault IndexTarget s.node e.first)) old.held (λ file. rw (is, test) refl))
 
 pub past_end : (old new : SourceView) (s : Section) (e : Entry) (q : ℕ) → place e.place ≡ Some q → s.data_place ≤ q → s.end < q + 4 → IsTargetCause old s e (Refused (fault IndexTarget s.node e.first)) new
 unfolding target_fault
 past_end old new s e q is low high =
     let test = le-ltb q s.data_place low in
     let over = lt-ltb s.end (q + 4) high in
-    (refl, told_each (λ file. target_fault file s e ≡ Some (fault IndexTarget s.node e.first)) old.held (λ file. rw (is, test, over) refl))
+    (refl, told_all (λ file. target_fault file s e ≡ Some (fault IndexTarget s.node e.first)) old.held (λ file. rw (is, test, over) refl))
 
 pub wrong_page : (old new : SourceView) (s : Section) (e : Entry) (q : ℕ) (found : ReadFault) → place e.place ≡ Some q → s.data_place ≤ q → q + 4 ≤ s.end → IsSpanCause old q 4 found new → IsTargetCause old s e found new
 unfolding target_fault

@@ -4,21 +4,20 @@ use Rattle.std.proofs.Common.{refl, ap, subst, ◌∙◌, arith}
 use Rattle.std.proofs.lemmas.List.{append_assoc, append-nil}
 use Rattle.std.proofs.lemmas.Bool.{eqb-true, eq-eqb, ltb-false, lt-ltb, le-leb, and_parts, false≢true}
 use Rattle.e57_base.specs.Source.{SourceView}
-use Rattle.e57_base.specs.Told.{told_map}
+use Rattle.e57_base.proofs.Told.{told_map, told_all}
 use Rattle.e57_base.specs.declared.fault.ReadFault.{ReadFault}
 use Rattle.e57_page.specs.File.{logical}
 use Rattle.e57_layout.specs.IndexPackets.{level_at}
 use Rattle.e57_layout.specs.declared.packet.Entry.{Entry}
 use Rattle.e57_layout.specs.declared.section.Section.{Section}
-use Rattle.e57_sections.specs.Index.{begins_and_rises, known_place, entries_of, root_entry, root_level}
-use Rattle.e57_sections.specs.Laws.Descents.{pick-is}
+use Rattle.e57_cloud.specs.Index.{begins_and_rises, known_place, entries_of, root_entry, root_level}
+use Rattle.e57_cloud.proofs.Laws.Descents.{pick-is}
 use Rattle.e57_index.specs.Picking.{IsPicked}
 use Rattle.e57_index.specs.OnePacket.{level_fits, wanted_fault, IsPacketAt}
 use Rattle.e57_index.specs.Standing.{HeldPacket, Cursor, StandsIn}
 use Rattle.e57_index.specs.Holding.{holds_place, LoadsIndex, LosesLoad}
 use Rattle.e57_index.specs.Finding.{KeepsStanding, HoldsRecord, held_level}
 use Rattle.e57_index.specs.Spans.{Span, AskedAs, AsksSpans, unless_fault, packet_spans, target_spans, of_picked, below_spans, beyond_root, path_spans, holds_leaf, spans_from, most_spans, OnSpans, AsksPath, left_spans, load_spans, AsksLoad, packets_spans, LeavesSpans, DescendsSpans, StopsSpans, LeavesBelow, StepsSpans, IsBelow, AsksBelow}
-use Rattle.e57_index.proofs.Asked.{told_each}
 use Rattle.e57_index.proofs.Judged.{not_is, no_fault}
 use Rattle.e57_index.proofs.Ways.{first_is, some_and, some_if}
 use Rattle.e57_index.proofs.Spanned.{asked-none, asked-on, asked-front, asks_spans-none, asks_spans-on, asks_spans-by}
@@ -93,7 +92,7 @@ root_spans (Ok x) old new before after i away asks load =
 root_spans (Err found) old new before after i away asks lost =
     let most = not_leaf before.held i away in
     asks_spans-by before.section 2 (packets_spans before.held i) (λ file. AskedAs (load_spans file before None (root_entry before.section))) (OnSpans before i) old new (omega (arith, most))
-    (told_each (λ file. (p : List ℕ) → AskedAs (load_spans file before None (root_entry before.section)) p → OnSpans before i file p) old.held
+    (told_all (λ file. (p : List ℕ) → AskedAs (load_spans file before None (root_entry before.section)) p → OnSpans before i file p) old.held
     (λ file p asked stands. rw (append-nil p) at (root_from file before i before.held p [] away asked (asked-none (beyond_root file before.section i))))) asks
 
 -- ---- a packet below it
@@ -122,7 +121,7 @@ down_held (Ok y) old new before after h level i x ends held higher up picked ask
     (asked-on (packet_spans file before.section (Some level) x) _ p rest (loaded_spans file before (Some level) x p asked) there)) load.is) asks
 down_held (Err found) old new before after h level i x ends held higher up picked asks lost =
     asks_spans-by before.section 2 2 (λ file. AskedAs (load_spans file before (Some level) x)) (IsBelow before i) old new (omega arith)
-    (told_each (λ file. (p : List ℕ) → AskedAs (load_spans file before (Some level) x) p → IsBelow before i file p) old.held
+    (told_all (λ file. (p : List ℕ) → AskedAs (load_spans file before (Some level) x) p → IsBelow before i file p) old.held
     (λ file p asked stands. rw (left_is file before.section i before.held h held, below_is file before.section i level h x ends higher up picked)
     (asked-front (packet_spans file before.section (Some level) x) _ p (loaded_spans file before (Some level) x p asked)))) asks
 
@@ -148,7 +147,7 @@ target_below old new c i x ends has leaf picked up asks =
     let of_level : held.0.level ≡ 0 = rw held.1 at leaf in
     let is = leaf_one held.0 held.1 of_level in
     asks_spans-by c.section 1 1 (λ file. AskedAs (target_spans c.section x)) (IsBelow c i) old new (omega arith)
-    (told_each (λ file. (p : List ℕ) → AskedAs (target_spans c.section x) p → IsBelow c i file p) old.held (λ file p asked stands. rw (is file) asked)) asks
+    (told_all (λ file. (p : List ℕ) → AskedAs (target_spans c.section x) p → IsBelow c i file p) old.held (λ file p asked stands. rw (is file) asked)) asks
   where
     leaf_one : (h : HeldPacket) → c.held ≡ Some h → h.level ≡ 0 → (file : List ℕ) → left_spans file c.section i c.held ≡ target_spans c.section x
     leaf_one h held of_level file = left_is file c.section i c.held h held ∙ leaf_is file c.section i h x ends of_level (some_if c.held h (λ k. begins_and_rises k.first k.bound k.entries ≡ true) held up) (some_if c.held h (λ k. IsPicked k.bound k.entries i x ends) held picked)
@@ -222,7 +221,7 @@ path_stopped old mid new a b i same keeps higher first next =
 pub stopped_path : (old new : SourceView) (a : Cursor) (i : ℕ) → StopsSpans a i old new → AsksPath a i old new
 stopped_path old new a i stops =
     let most = one_more a.held i in
-    asks_spans-by a.section (packets_spans a.held i) (most_spans a.held i) (OnSpans a i) (OnSpans a i) old new (omega (arith, most)) (told_each (λ file. (p : List ℕ) → OnSpans a i file p → OnSpans a i file p) old.held (λ file p on. on)) stops
+    asks_spans-by a.section (packets_spans a.held i) (most_spans a.held i) (OnSpans a i) (OnSpans a i) old new (omega (arith, most)) (told_all (λ file. (p : List ℕ) → OnSpans a i file p → OnSpans a i file p) old.held (λ file p on. on)) stops
 
 -- ---- where the section was taken out of the cursor
 

@@ -1,23 +1,22 @@
 -- The steps of a search: down from the root, packet by packet, and to the chunk.
 use Rattle.std.specs.Prelude.{◌≡◌, ℕ, zero, suc, ◌<◌, ◌≤◌, ◌==◌, true, false, List, [], ◌∷◌, Option, Some, None, IfSome, IsSomeAnd, MatchResult, Result, Ok, Err}
-use Rattle.std.proofs.Common.{refl, sym, subst, ap, arith}
+use Rattle.std.proofs.Common.{refl, sym, subst, arith}
 use Rattle.std.proofs.lemmas.Bool.{eqb-true, eq-eqb, and_parts, false≢true}
-use Rattle.e57_base.specs.Count.{rose_before}
+use Rattle.e57_base.proofs.CountLaws.{rose_before}
 use Rattle.e57_base.specs.Source.{SourceView}
-use Rattle.e57_base.specs.Told.{told_map, told_both, told_here}
+use Rattle.e57_base.proofs.Told.{told_map, told_both, told_here, told_all}
 use Rattle.e57_base.specs.declared.fault.Fault.{Fault}
 use Rattle.e57_base.specs.declared.fault.ReadFault.{ReadFault}
 use Rattle.e57_base.specs.declared.fault.ReadFault.TheVariants.{Refused, Source}
 use Rattle.e57_layout.specs.IndexPackets.{entry_at, entries_at}
 use Rattle.e57_layout.specs.declared.packet.Entry.{Entry}
 use Rattle.e57_layout.specs.declared.section.Section.{Section}
-use Rattle.e57_sections.specs.Section.{or_zero}
 use Rattle.e57_page.specs.Place.{place}
-use Rattle.e57_sections.specs.Index.{known_place, begins_and_rises, rises, target_fault, root_entry, root_level, next_first}
-use Rattle.e57_sections.specs.PathItem.{path}
-use Rattle.e57_sections.specs.Met.{InTarget, OnPath}
-use Rattle.e57_sections.specs.Laws.Indexes.{Rises, rises-to}
-use Rattle.e57_sections.specs.Laws.Descents.{HasEntry, entry-within}
+use Rattle.e57_cloud.specs.Index.{begins_and_rises, rises, target_fault, root_entry, root_level, next_first, Rises, HasEntry}
+use Rattle.e57_cloud.specs.PathItem.{path}
+use Rattle.e57_cloud.specs.Met.{InTarget, OnPath}
+use Rattle.e57_cloud.proofs.Laws.Indexes.{rises-to}
+use Rattle.e57_cloud.proofs.Laws.Descents.{entry-within}
 use Rattle.e57_index.specs.declared.cursor.Found.{Found}
 use Rattle.e57_index.specs.Asking.{AsksMet}
 use Rattle.e57_index.specs.Picking.{IsPicked}
@@ -26,9 +25,10 @@ use Rattle.e57_index.specs.Reading.{AsksTarget, ReadsTarget, LosesTarget}
 use Rattle.e57_index.specs.Standing.{HeldPacket, Cursor, AreLed, entry_of, IsOfFile, StandsIn}
 use Rattle.e57_index.specs.Holding.{LoadsIndex, LosesLoad}
 use Rattle.e57_index.specs.Finding.{OnWay, AsksWay, KeepsStanding, FindsChunk, IsWayCause, LosesChunk, StepsDown, HoldsRecord, held_level, chunk_of}
-use Rattle.e57_index.proofs.Asked.{told_each, asks_met-on, asks_met-by}
+use Rattle.e57_index.proofs.Asked.{asks_met-on, asks_met-by}
 use Rattle.e57_index.proofs.Judged.{level_is, no_fault}
 use Rattle.e57_index.proofs.Led.{root_led, root_lost, root_met, packet_lost, packet_met, child_led, target_lost, target_met, target_found}
+use Rattle.e57_index.proofs.Judging.{known_is}
 
 -- ---- the entries that are held
 
@@ -90,7 +90,7 @@ child_way before h level i x ends is up higher picked =
 pub stepped : (old new : SourceView) (before after : Cursor) (wanted : Option ℕ) (e : Entry) (bound i : ℕ) → after.section ≡ before.section → IsWay before wanted e bound i → LoadsIndex old before wanted e bound new after → StepsDown old before i new after
 stepped old new before after wanted e bound i same way load =
     record {
-      source = asks_met-by before.section (OnPacket before.section wanted e) (OnWay before i) old new (told_each (λ file. (p : ℕ) → OnPacket before.section wanted e file p → OnWay before i file p) old.held (λ file p on stands. way.met file stands p on)) load.source;
+      source = asks_met-by before.section (OnPacket before.section wanted e) (OnWay before i) old new (told_all (λ file. (p : ℕ) → OnPacket before.section wanted e file p → OnWay before i file p) old.held (λ file p on stands. way.met file stands p on)) load.source;
       stands = told_map (λ file. StandsIn file before → IsPacketAt file before.section e.place load.h.level load.h.entries) (λ file. StandsIn file before → StandsIn file after) old.held (λ file at stands. of_file file stands (at stands)) load.is;
       has = rw load.held (omega (arith, load.same_first, way.low), omega (arith, load.same_bound, way.high));
     }
@@ -105,15 +105,15 @@ stepped old new before after wanted e bound i same way load =
 pub lost_way : (old new : SourceView) (before after : Cursor) (wanted : Option ℕ) (e : Entry) (bound i : ℕ) (found : ReadFault) → IsWay before wanted e bound i → LosesLoad old before wanted e bound found new after → LosesChunk old before i found new after
 lost_way old new before after wanted e bound i (Refused found) way lost =
     record {
-      source = asks_met-by before.section (OnPacket before.section wanted e) (OnWay before i) old new (told_each (λ file. (p : ℕ) → OnPacket before.section wanted e file p → OnWay before i file p) old.held (λ file p on stands. way.met file stands p on)) lost.source;
+      source = asks_met-by before.section (OnPacket before.section wanted e) (OnWay before i) old new (told_all (λ file. (p : ℕ) → OnPacket before.section wanted e file p → OnWay before i file p) old.held (λ file p on stands. way.met file stands p on)) lost.source;
       cause = (lost.cause.0, told_map (λ file. StandsIn file before → wanted_fault file before.section wanted e bound ≡ Some found) (λ file. StandsIn file before → path file before.section i ≡ Err found) old.held (λ file is stands. way.lost file stands found (is stands)) lost.cause.1);
-      stands = told_each (λ file. StandsIn file before → StandsIn file after) old.held lost.kept;
+      stands = told_all (λ file. StandsIn file before → StandsIn file after) old.held lost.kept;
     }
 lost_way old new before after wanted e bound i Source way lost =
     record {
-      source = asks_met-by before.section (OnPacket before.section wanted e) (OnWay before i) old new (told_each (λ file. (p : ℕ) → OnPacket before.section wanted e file p → OnWay before i file p) old.held (λ file p on stands. way.met file stands p on)) lost.source;
+      source = asks_met-by before.section (OnPacket before.section wanted e) (OnWay before i) old new (told_all (λ file. (p : ℕ) → OnPacket before.section wanted e file p → OnWay before i file p) old.held (λ file p on stands. way.met file stands p on)) lost.source;
       cause = lost.cause;
-      stands = told_each (λ file. StandsIn file before → StandsIn file after) old.held lost.kept;
+      stands = told_all (λ file. StandsIn file before → StandsIn file after) old.held lost.kept;
     }
 
 -- ---- one step after another
@@ -174,13 +174,10 @@ found_later old mid new a b c i f same first keeps next =
 leaf_led : (file : List ℕ) (c : Cursor) (h : HeldPacket) (x : Entry) (ends : ℕ) → c.held ≡ Some h → h.level ≡ 0 → begins_and_rises h.first h.bound h.entries ≡ true → HasEntry h.bound h.entries x ends → StandsIn file c → AreLed file c.section 0 x ends
 leaf_led file c h x ends is leaf up has stands = rw leaf at (held_led file c h x ends is up has stands)
 
-known_is : (offset q : ℕ) → place offset ≡ Some q → known_place offset ≡ q
-known_is offset q is = ap (λ (at : Option ℕ). or_zero at) is
-
 asks_leaf : (old new : SourceView) (c : Cursor) (h : HeldPacket) (i : ℕ) (x : Entry) (ends : ℕ) → c.held ≡ Some h → h.level ≡ 0 → begins_and_rises h.first h.bound h.entries ≡ true → IsPicked h.bound h.entries i x ends → AsksTarget c.section x old new → AsksWay c i old new
 asks_leaf old new c h i x ends is leaf up picked asks =
     asks_met-by c.section (λ file p. InTarget c.section x p) (OnWay c i) old new
-    (told_each (λ file. (p : ℕ) → InTarget c.section x p → OnWay c i file p) old.held (λ file p on stands. target_met file c.section x ends i p (leaf_led file c h x ends is leaf up picked.has stands i picked.low picked.high) on)) asks
+    (told_all (λ file. (p : ℕ) → InTarget c.section x p → OnWay c i file p) old.held (λ file p on stands. target_met file c.section x ends i p (leaf_led file c h x ends is leaf up picked.has stands i picked.low picked.high) on)) asks
 
 pub found_chunk : (old new : SourceView) (c : Cursor) (h : HeldPacket) (i : ℕ) (x : Entry) (ends q : ℕ) → c.held ≡ Some h → h.level ≡ 0 → begins_and_rises h.first h.bound h.entries ≡ true → IsPicked h.bound h.entries i x ends → ends ≤ c.section.count → ReadsTarget old c.section x q new
     → FindsChunk old c i (record { start = x.first; until = ends; place = q }) new c
@@ -192,7 +189,7 @@ found_chunk old new c h i x ends q is leaf up picked most read =
       most = most;
       data_after = read.after;
       within = read.within;
-      stands = told_each (λ file. StandsIn file c → StandsIn file c) old.held (λ file stands. stands);
+      stands = told_all (λ file. StandsIn file c → StandsIn file c) old.held (λ file stands. stands);
       is = told_map (λ file. target_fault file c.section x ≡ None) (λ file. StandsIn file c → (j : ℕ) → x.first ≤ j → j < ends → path file c.section j ≡ Ok (record { first = x.first; until = ends; place = q })) old.held
           (λ file none stands j low high. rw (known_is x.place q read.at) at (target_found file c.section x ends j (leaf_led file c h x ends is leaf up picked.has stands j low high) none)) read.sound;
     }
@@ -206,10 +203,10 @@ lost_chunk old new c h i x ends (Refused found) is leaf up picked lost =
         told_map (λ file. target_fault file c.section x ≡ Some found) (λ file. StandsIn file c → path file c.section i ≡ Err found) old.held
             (λ file wrong stands. target_lost file c.section x ends i found (leaf_led file c h x ends is leaf up picked.has stands i picked.low picked.high) wrong) lost.cause.1,
       );
-      stands = told_each (λ file. StandsIn file c → StandsIn file c) old.held (λ file stands. stands);
+      stands = told_all (λ file. StandsIn file c → StandsIn file c) old.held (λ file stands. stands);
     }
 lost_chunk old new c h i x ends Source is leaf up picked lost =
-    record { source = asks_leaf old new c h i x ends is leaf up picked lost.source; cause = lost.cause; stands = told_each (λ file. StandsIn file c → StandsIn file c) old.held (λ file stands. stands) }
+    record { source = asks_leaf old new c h i x ends is leaf up picked lost.source; cause = lost.cause; stands = told_all (λ file. StandsIn file c → StandsIn file c) old.held (λ file stands. stands) }
 
 -- ---- what a call answered
 

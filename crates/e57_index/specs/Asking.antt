@@ -4,7 +4,7 @@ use Rattle.std.specs.List.{AllByRecursion}
 use Rattle.e57_base.specs.Source.{SourceView}
 use Rattle.e57_page.specs.Pages.{AsksFor}
 use Rattle.e57_layout.specs.declared.section.Section.{Section}
-use Rattle.e57_sections.specs.Met.{InSpan}
+use Rattle.e57_cloud.specs.Met.{InSpan}
 
 -- page p has some of the section's bytes
 abbrev pub InSection : Section → ℕ → Type 0

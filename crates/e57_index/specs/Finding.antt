@@ -1,15 +1,16 @@
 -- What `find` answers, and what it does to the source and the cursor.
-use Rattle.std.specs.Prelude.{◌≡◌, ℕ, ◌+◌, ◌<◌, ◌≤◌, true, List, Option, Some, None, IfSome, IsSomeAnd, Ok, Err}
+use Rattle.std.specs.Prelude.{◌≡◌, ℕ, ◌+◌, ◌<◌, ◌≤◌, true, List, Option, Some, None, IfSome, IsSomeAnd, Ok, Err, ◌==◌, false}
 use Rattle.e57_base.specs.Count.{Rose}
 use Rattle.e57_base.specs.Source.{SourceView}
 use Rattle.e57_base.specs.declared.fault.ReadFault.{ReadFault}
 use Rattle.e57_base.specs.declared.fault.ReadFault.TheVariants.{Refused, Source}
-use Rattle.e57_sections.specs.PathItem.{ChunkAt, path}
-use Rattle.e57_sections.specs.Met.{OnPath}
+use Rattle.e57_cloud.specs.PathItem.{ChunkAt, path}
+use Rattle.e57_cloud.specs.Met.{OnPath}
 use Rattle.e57_index.specs.declared.cursor.Found.{Found}
 use Rattle.e57_index.specs.Asking.{AsksMet}
 use Rattle.e57_index.specs.Reading.{is_index_kind}
 use Rattle.e57_index.specs.Standing.{HeldPacket, Cursor, StandsIn}
+use Rattle.e57_layout.specs.declared.section.Section.{Section}
 
 -- page p is one of the path of record i, where the cursor stands in the file
 abbrev pub OnWay : Cursor → ℕ → List ℕ → ℕ → Type 0
@@ -64,3 +65,7 @@ pub record StepsDown (old : SourceView) (before : Cursor) (i : ℕ) (new : Sourc
   pub source : AsksWay before i old new
   pub stands : KeepsStanding old before after
   pub has : HoldsRecord after.held i
+
+-- The path of the record past a chunk leads, if it leads to one, to a chunk that begins with it.
+abbrev pub IsFollowed : List ℕ → Section → ℕ → ChunkAt → ChunkAt → Type 0
+IsFollowed file s i c d = (s.index == 0) ≡ false → i < s.count → path file s i ≡ Ok c → c.until < s.count → path file s c.until ≡ Ok d → d.first ≡ c.until

@@ -1,7 +1,6 @@
 -- The walk over a whole index, depth first: the entries of height 0 that it gathers, and what it does to the source.
-use Rattle.std.specs.Prelude.{◌≡◌, ℕ, ◌+◌, ◌<◌, ◌≤◌, true, List, ◌++◌, length, Option, Some, None, IfSome, IsSomeAnd}
+use Rattle.std.specs.Prelude.{◌≡◌, ℕ, ◌+◌, ◌<◌, ◌≤◌, true, List, ◌++◌, length, Option, Some, None, IfSome, IsSomeAnd, flat_map}
 use Rattle.std.specs.List.{AllByRecursion}
-use Rattle.std.specs.Prelude.{flat_map}
 use Rattle.std.specs.Option.{option_or}
 use Rattle.e57_base.specs.Count.{Rose}
 use Rattle.e57_base.specs.Source.{SourceView}
@@ -12,8 +11,7 @@ use Rattle.e57_page.specs.Place.{place}
 use Rattle.e57_page.specs.Pages.{AsksFor}
 use Rattle.e57_layout.specs.declared.packet.Entry.{Entry}
 use Rattle.e57_layout.specs.declared.section.Section.{Section}
-use Rattle.e57_sections.specs.Index.{begins_and_rises, next_first, entries_of, each_fault, entry_fault, entries_below, index_fault, entries as the_entries}
-use Rattle.e57_sections.specs.Laws.Indexes.{Rises}
+use Rattle.e57_cloud.specs.Index.{begins_and_rises, next_first, entries_of, each_fault, entry_fault, entries_below, index_fault, entries as the_entries, Rises}
 use Rattle.e57_index.specs.Asking.{InSection}
 use Rattle.e57_index.specs.OnePacket.{level_of, wanted_fault}
 use Rattle.e57_index.specs.Reading.{is_index_kind}

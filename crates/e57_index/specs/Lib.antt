@@ -7,4 +7,3 @@ pub mod Holding
 pub mod Finding
 pub mod Gathering
 pub mod Spans
-pub mod Laws

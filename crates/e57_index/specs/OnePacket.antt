@@ -9,9 +9,9 @@ use Rattle.e57_page.specs.File.{logical, span_fault}
 use Rattle.e57_layout.specs.IndexPackets.{entry_count_at, level_at}
 use Rattle.e57_layout.specs.declared.packet.Entry.{Entry}
 use Rattle.e57_layout.specs.declared.section.Section.{Section}
-use Rattle.e57_sections.specs.Section.{when}
-use Rattle.e57_sections.specs.Index.{highest_level, known_place, entries_of, index_start_fault, index_shape_fault, index_packet_fault}
-use Rattle.e57_sections.specs.Met.{InIndexStart, InEntries}
+use Rattle.e57_cloud.specs.Section.{when}
+use Rattle.e57_cloud.specs.Index.{highest_level, known_place, entries_of, index_start_fault, index_shape_fault, index_packet_fault}
+use Rattle.e57_cloud.specs.Met.{InIndexStart, InEntries}
 
 -- The level is the wanted one; that of a root, for which none is wanted, isn't above the highest.
 abbrev pub level_fits : Option ℕ → ℕ → Bool

@@ -2,7 +2,7 @@
 use Rattle.std.specs.Prelude.{ℕ, ◌+◌, ◌*◌, ◌<◌, ◌≤◌, List}
 use Rattle.e57_layout.specs.IndexPackets.{entry_at}
 use Rattle.e57_layout.specs.declared.packet.Entry.{Entry}
-use Rattle.e57_sections.specs.Laws.Descents.{HasEntry}
+use Rattle.e57_cloud.specs.Index.{HasEntry}
 
 -- Record i is one of this entry's, which is one of these entries and ends where the next one begins, or at the bound.
 pub record IsPicked (bound : ℕ) (entries : List Entry) (i : ℕ) (e : Entry) (until : ℕ) : Type 0 where

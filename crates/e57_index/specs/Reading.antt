@@ -12,11 +12,12 @@ use Rattle.e57_layout.specs.IndexPackets.{entry_count_at, level_at, entries_at}
 use Rattle.e57_layout.specs.declared.packet.Entry.{Entry}
 use Rattle.e57_layout.specs.declared.packet.IndexHead.{IndexHead}
 use Rattle.e57_layout.specs.declared.section.Section.{Section}
-use Rattle.e57_sections.specs.Index.{begins_and_rises, index_shape_fault, target_fault}
-use Rattle.e57_sections.specs.Met.{InIndexStart, InTarget}
+use Rattle.e57_cloud.specs.Index.{begins_and_rises, index_shape_fault, target_fault, index_packet_fault}
+use Rattle.e57_cloud.specs.Met.{InIndexStart, InTarget}
 use Rattle.e57_index.specs.declared.start.Start.{Start}
 use Rattle.e57_index.specs.Asking.{AsksMet}
 use Rattle.e57_index.specs.OnePacket.{level_fits, wanted_fault, OnPacket, IsPacketAt}
+use Rattle.e57_base.specs.Fault.{fault}
 
 -- the bytes of the most entries of an index packet
 abbrev pub most_entry_bytes : ℕ
@@ -97,3 +98,7 @@ IsTargetCause old s e Source new = Rose old.faults new.faults
 pub record LosesTarget (old : SourceView) (s : Section) (e : Entry) (found : ReadFault) (new : SourceView) : Type 0 where
   pub source : AsksTarget s e old new
   pub cause : IsTargetCause old s e found new
+
+-- A packet of this level that has no fault for one entry has one for an entry with another record.
+abbrev pub IsRefusedAgain : List ℕ → Section → ℕ → Entry → Entry → ℕ → ℕ → Type 0
+IsRefusedAgain file s level x y a b = index_packet_fault file s level x a ≡ None → y.place ≡ x.place → (y.first ≡ x.first → ⊥) → index_packet_fault file s level y b ≡ Some (fault IndexOrder s.node x.place)

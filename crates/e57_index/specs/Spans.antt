@@ -10,8 +10,8 @@ use Rattle.e57_page.specs.Pages.{AsksFor}
 use Rattle.e57_layout.specs.IndexPackets.{entry_count_at}
 use Rattle.e57_layout.specs.declared.packet.Entry.{Entry}
 use Rattle.e57_layout.specs.declared.section.Section.{Section}
-use Rattle.e57_sections.specs.Index.{known_place, entries_of, index_shape_fault, root_entry, root_level}
-use Rattle.e57_sections.specs.PathItem.{pick}
+use Rattle.e57_cloud.specs.Index.{known_place, entries_of, index_shape_fault, root_entry, root_level}
+use Rattle.e57_cloud.specs.PathItem.{pick}
 use Rattle.e57_index.specs.OnePacket.{level_of, start_fault, wanted_fault}
 use Rattle.e57_index.specs.Standing.{HeldPacket, Cursor, StandsIn}
 use Rattle.e57_index.specs.Holding.{holds_place}

@@ -2,8 +2,8 @@
 use Rattle.std.specs.Prelude.{◌≡◌, ℕ, suc, ◌<◌, ◌≤◌, List, Option, IfSome}
 use Rattle.e57_layout.specs.declared.packet.Entry.{Entry}
 use Rattle.e57_layout.specs.declared.section.Section.{Section}
-use Rattle.e57_sections.specs.PathItem.{descend, path}
-use Rattle.e57_sections.specs.Met.{OnDescent, OnPath}
+use Rattle.e57_cloud.specs.PathItem.{descend, path}
+use Rattle.e57_cloud.specs.Met.{OnDescent, OnPath}
 use Rattle.e57_index.specs.OnePacket.{IsPacketAt}
 
 -- An index packet that is held: its physical offset, its level, the records from the first one up to the bound, its entries.

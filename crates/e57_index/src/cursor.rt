@@ -3,7 +3,7 @@
 ghost use Rattle.std.specs.Prelude.{◌≡◌, ◌≢◌, ◌+◌, ◌-◌, ◌*◌, ◌/◌, ◌≤◌, ◌<◌, ◌==◌, None, true, false, IfOk, IsTrue, IfSome, MatchResult};
 ghost use Rattle.e57_base.specs.Source.{page_length, SourceView};
 ghost use Rattle.e57_page.specs.Place.{payload_length};
-ghost use Rattle.e57_sections.specs.Index.{begins_and_rises};
+ghost use Rattle.e57_cloud.specs.Index.{begins_and_rises};
 ghost use Rattle.e57_section.specs.Opening.{LiesIn};
 ghost use Rattle.e57_index.specs.Picking.{IsPicked};
 ghost use Rattle.e57_index.specs.Holding.{holds_place, LoadsIndex, LosesLoad};

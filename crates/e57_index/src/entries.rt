@@ -2,7 +2,7 @@
 
 ghost use Rattle.std.specs.Prelude.{◌≡◌, ◌+◌, ◌-◌, ◌*◌, ◌<◌, ◌≤◌, length};
 ghost use Rattle.e57_layout.specs.IndexPackets.{entry_at, entries_at};
-ghost use Rattle.e57_sections.specs.Index.{begins_and_rises, next_first};
+ghost use Rattle.e57_cloud.specs.Index.{begins_and_rises, next_first};
 ghost use Rattle.e57_index.specs.Picking.{IsPicked, IsLastAtMost};
 
 use e57_bits::u64_at;

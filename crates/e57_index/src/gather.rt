@@ -3,7 +3,7 @@
 ghost use Rattle.std.specs.Prelude.{◌≡◌, ℕ, ◌*◌, ◌/◌, ◌<◌, MatchResult};
 ghost use Rattle.e57_base.specs.Source.{page_length};
 ghost use Rattle.e57_page.specs.Place.{payload_length};
-ghost use Rattle.e57_sections.specs.Index.{entry_fault, entries_below};
+ghost use Rattle.e57_cloud.specs.Index.{entry_fault, entries_below};
 ghost use Rattle.e57_section.specs.Opening.{LiesIn};
 ghost use Rattle.e57_index.specs.Gathering.{branch_fault, branch_entries, Gathers, GathersNot};
 

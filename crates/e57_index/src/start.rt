@@ -5,7 +5,7 @@ ghost use Rattle.e57_base.specs.Source.{page_length};
 ghost use Rattle.e57_base.specs.Fault.{fault};
 ghost use Rattle.e57_page.specs.Place.{payload_length};
 ghost use Rattle.e57_layout.specs.Packets.{length_at};
-ghost use Rattle.e57_packet.specs.Reading.{is_misshapen_index, index_head_at};
+ghost use Rattle.e57_packet.specs.Reading.{is_misshapen_head, index_head_at};
 ghost use Rattle.e57_index.specs.OnePacket.{level_fits};
 ghost use Rattle.e57_index.specs.Reading.{ReadsStart, LosesStart};
 ghost use Rattle.e57_index.specs.Spans.{AsksStartSpans};
@@ -80,8 +80,8 @@ pub fn read_start<S: Source>(
 /// The head of the index packet that begins with these bytes, unless it is misshapen or longer than the `room`.
 fn judge_head(bytes: &[u8; 16], room: u64) -> Option<IndexHead>
     ensures { MatchOption result
-        ((is_misshapen_index bytes.now || nat_lt room (length_at bytes.now 0)) ≡ true)
-        (λ head. ((is_misshapen_index bytes.now || nat_lt room (length_at bytes.now 0)) ≡ false) × (head ≡ index_head_at bytes.now 0)) }
+        ((is_misshapen_head bytes.now || nat_lt room (length_at bytes.now 0)) ≡ true)
+        (λ head. ((is_misshapen_head bytes.now || nat_lt room (length_at bytes.now 0)) ≡ false) × (head ≡ index_head_at bytes.now 0)) }
 {
     let length = packet_length(bytes);
     match read_index_head(bytes) {

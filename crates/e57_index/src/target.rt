@@ -4,7 +4,7 @@ ghost use Rattle.std.specs.Prelude.{◌≡◌, ◌+◌, ◌*◌, ◌/◌, ◌≤
 ghost use Rattle.e57_base.specs.Source.{page_length};
 ghost use Rattle.e57_bits.specs.Bits.{number};
 ghost use Rattle.e57_page.specs.Place.{payload_length};
-ghost use Rattle.e57_sections.specs.Index.{is_target as the_is_target};
+ghost use Rattle.e57_cloud.specs.Index.{is_target as the_is_target};
 ghost use Rattle.e57_index.specs.Reading.{ReadsTarget, LosesTarget};
 ghost use Rattle.e57_index.specs.Spans.{AsksTargetSpans};
 

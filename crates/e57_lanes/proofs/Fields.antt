@@ -4,7 +4,7 @@ use Rattle.std.proofs.Math.Nat.{mul_comm, mod-eq_of_lt, pow-le-pow_right, mul-mo
 use Rattle.std.proofs.lemmas.Nat.{and_mask, or_shifted, shr_high, mod_low, pow-add, pow_pos, shl_below, or_comm, mod-pow-add, shl-shr}
 use Rattle.std.proofs.lemmas.Nat.Bits.{ones_shr}
 use Rattle.e57_bits.specs.Bits.{number, bit}
-use Rattle.e57_bits.specs.BitLaws.{number-split, number-lt, number-low_bits, number-suc, bit-lt}
+use Rattle.e57_bits.proofs.BitLaws.{number-split, number-lt, number-low_bits, number-suc, bit-lt}
 
 -- the lower w of n bits
 pub number-mod : (b : List ℕ) (t w n : ℕ) → w ≤ n → number b t n % 2 ^ w ≡ number b t w

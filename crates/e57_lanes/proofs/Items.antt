@@ -5,7 +5,7 @@ use Rattle.std.proofs.lemmas.List.{ext_get_or, get_or-take, get_or-drop, take-ta
 use Rattle.std.proofs.lemmas.Bool.{cases_lt, cases_eq}
 use lib.Lanes.{put_chunk}
 use Rattle.e57_bits.specs.Bits.{number}
-use Rattle.e57_bits.specs.BitLaws.{number-byte}
+use Rattle.e57_bits.proofs.BitLaws.{number-byte}
 use Rattle.e57_lanes.specs.Unpack.{stored, Written}
 use Rattle.e57_lanes.specs.Eight.{eight_numbers}
 

@@ -1,3 +1,4 @@
+pub mod PackLaws
 pub mod Fields
 pub mod Vectors
 pub mod Items

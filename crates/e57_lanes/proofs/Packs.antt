@@ -5,7 +5,7 @@ use Rattle.std.proofs.lemmas.Nat.{mod_below, or_shifted, or_comm, mod-pow-add, p
 use Rattle.std.proofs.lemmas.List.{get_or-set_same, get_or-set_other}
 use Rattle.std.proofs.lemmas.Bool.{cases_lt, cases_eq}
 use Rattle.e57_bits.specs.Bits.{bit, number}
-use Rattle.e57_bits.specs.BitLaws.{number-zero, number-suc, number-split, number-lt, number-byte, bit-byte}
+use Rattle.e57_bits.proofs.BitLaws.{number-zero, number-suc, number-split, number-lt, number-byte, bit-byte}
 use Rattle.e57_lanes.specs.PackSteps.{SameBits, joined}
 
 -- the same bits are the same number

@@ -1,6 +1,5 @@
 pub mod Unpack
 pub mod Eight
 pub mod Pack
-pub mod PackLaws
 pub mod PackSteps
 pub mod Begun

@@ -1,7 +1,8 @@
 -- What it means to pack integers as bit fields (ASTM E2807, the bit-packed codec).
 use Rattle.std.specs.Prelude.{◌≡◌, ℕ, ◌+◌, ◌*◌, ◌^◌, ◌<◌, ◌≤◌, ◌⊎◌, List, length, slice_index_or, ℤ, pos, ◌-ℤ◌, ◌≤ℤ◌, ◌<ℤ◌}
 use Rattle.e57_bits.specs.Bits.{bit}
-use Rattle.e57_lanes.specs.Unpack.{stored}
+use Rattle.e57_lanes.specs.Unpack.{stored, Unpacks}
+use Rattle.std.proofs.Common.{◌-◌, get_or, ◌+ℤ◌, Result, Ok}
 
 -- The number of each item is the value minus the minimum. Bits of no item are as they were.
 pub record Packed (values : List ℤ) (minimum : ℤ) (width phase : ℕ) (old new : List ℕ) : Type 0 where
@@ -16,3 +17,13 @@ pub record CanPack (values : List ℤ) (minimum : ℤ) (width phase : ℕ) (out 
   pub least : (k : ℕ) → k < length values → minimum ≤ℤ slice_index_or values k (pos 0)
   pub most : (k : ℕ) → k < length values → (slice_index_or values k (pos 0) -ℤ minimum) <ℤ pos (2 ^ width)
   pub room : phase + length values * width ≤ 8 * length out
+
+-- Unpacking what was packed gives the values back, and finds no number above the span, where each value is at most the
+-- minimum plus the span.
+abbrev pub PackedComesBack : Type 0
+PackedComesBack =
+    (values : List ℤ) (minimum : ℤ) (width phase span : ℕ) (before bytes : List ℕ) (old new : List ℤ) (result : Result (Unit {0}) ℕ)
+    → Packed values minimum width phase before bytes → length old ≡ length values
+    → ((k : ℕ) → k < length values → get_or values k (pos 0) ≤ℤ (minimum +ℤ pos span))
+    → Unpacks bytes phase width minimum span old result new
+    → (result ≡ Ok tt) × (new ≡ values)

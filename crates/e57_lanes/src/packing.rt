@@ -2,9 +2,8 @@
 
 ghost use Rattle.std.specs.Prelude.{◌≡◌, ◌+◌, ◌*◌, ◌/◌, ◌^◌, ◌<◌, ◌≤◌, ℕ, length, pos, ◌-ℤ◌, ◌≤ℤ◌, ◌<ℤ◌, if◌then◌else◌};
 ghost use Rattle.e57_bits.specs.Bits.{bit, number};
-ghost use Rattle.e57_lanes.specs.Pack.{CanPack, Packed};
+ghost use Rattle.e57_lanes.specs.Pack.{CanPack, Packed, PackedComesBack};
 ghost use Rattle.e57_lanes.specs.Begun.{PutsNumber};
-ghost use Rattle.e57_lanes.specs.PackLaws.{PackedComesBack};
 ghost use Rattle.e57_lanes.specs.PackSteps.{PackedBetween, value_number, joined, FitsField, SameBits};
 
 use crate::begun::Begun;

@@ -10,4 +10,3 @@ pub mod Items
 pub mod Packing
 pub mod Steps
 pub mod Written
-pub mod Laws

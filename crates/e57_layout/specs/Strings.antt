@@ -17,15 +17,15 @@ pub data PrefixRead : Type 0 where
   prefix_cut_off : PrefixRead
 
 -- a length that a prefix states, which may be above the limit
-abbrev pub limited : ℕ → List ℕ → PrefixRead
-limited n rest = if nat_lt string_limit n then prefix_too_long else prefix_found n rest
+abbrev pub within_limit : ℕ → List ℕ → PrefixRead
+within_limit n rest = if nat_lt string_limit n then prefix_too_long else prefix_found n rest
 
 -- A prefix whose first byte is even is that one byte. Else it has eight. The length is half of its number, rounded down.
 unfoldable pub first_prefix : List ℕ → PrefixRead
 first_prefix [] = prefix_cut_off
 first_prefix (b ∷ bs) =
-    if b % 2 == 0 then limited (b / 2) bs
-    else (if nat_lt (length bs) 7 then prefix_cut_off else limited (number (b ∷ bs) 0 64 / 2) (drop 7 bs))
+    if b % 2 == 0 then within_limit (b / 2) bs
+    else (if nat_lt (length bs) 7 then prefix_cut_off else within_limit (number (b ∷ bs) 0 64 / 2) (drop 7 bs))
 
 -- a string and what follows it; or its length is above the limit; or the stream ends within it
 pub data StringRead : Type 0 where

@@ -1,5 +1,6 @@
 -- What the items of a field are, and what is found where one is looked for.
-use Rattle.std.specs.Prelude.{◌≡◌, ℕ, ℤ, ◌≤ℤ◌, List}
+use Rattle.std.specs.Prelude.{◌≡◌, ℕ, ℤ, ◌^◌, ◌<◌, ◌≤ℤ◌, List}
+use Rattle.std.specs.Int.{int_gap}
 use Rattle.e57_layout.specs.declared.field.Field.{Field}
 use Rattle.e57_layout.specs.declared.field.FieldKind.{FieldKind}
 use Rattle.e57_layout.specs.declared.field.FieldKind.TheVariants.{Int, Scaled, Bits32, Bits64, Text}
@@ -10,6 +11,12 @@ pub data ItemKind : Type 0 where
   integers : ℤ → ℤ → ItemKind
   words : ℕ → ItemKind
   strings : ItemKind
+
+-- the limits are in order, and less than 2 ^ 64 apart
+abbrev pub IsKind : ItemKind → Type 0
+IsKind (integers low high) = (low ≤ℤ high) × (int_gap low high < 2 ^ 64)
+IsKind (words w) = Unit {0}
+IsKind strings = Unit {0}
 
 -- what the items of a field of this kind are: scale and offset play no part
 abbrev pub item_kind : FieldKind → ItemKind

@@ -6,4 +6,3 @@ pub mod Limits
 pub mod Fields
 pub mod Typed
 pub mod Items
-pub mod Laws

@@ -54,3 +54,21 @@ abbrev mutual
 -- the tree in which each place is the text `0`
 abbrev pub without_places : Element → Element
 without_places e = with_places (replicate (length (places_in e)) (codes "0")) e
+
+-- nodes with these texts as the places, one for each cloud and blob
+abbrev pub placed_node : List (List ℕ) → RawNode → RawNode
+placed_node texts node =
+    if is_cloud_or_blob node.attrs
+    then record { name = node.name; attrs = with_value place_name (slice_index_or texts 0 []) node.attrs; text = node.text; size = node.size }
+    else node
+
+abbrev pub texts_after : List (List ℕ) → RawNode → List (List ℕ)
+texts_after texts node = if is_cloud_or_blob node.attrs then drop 1 texts else texts
+
+abbrev pub placed_nodes : List (List ℕ) → List RawNode → List RawNode
+placed_nodes texts [] = []
+placed_nodes texts (node ∷ nodes) = placed_node texts node ∷ placed_nodes (texts_after texts node) nodes
+
+-- how many of nodes have a section
+abbrev pub item_count : List RawNode → ℕ
+item_count nodes = length (filter_map stated_place nodes)

@@ -5,7 +5,7 @@ use Rattle.std.specs.Str.{bytes_eq}
 use Rattle.e57_base.specs.declared.fault.Fault.{Fault}
 use Rattle.e57_base.specs.declared.kind.Kind.TheVariants as kind
 use Rattle.e57_base.specs.Fault.{fault}
-use Rattle.e57_sections.specs.Section.{when}
+use Rattle.e57_cloud.specs.Section.{when}
 use Rattle.e57_nodes.specs.declared.ElementType.{ElementType}
 use Rattle.e57_nodes.specs.declared.ElementType.TheVariants as element_type
 use Rattle.e57_nodes.specs.Facts.{Facts}
@@ -109,14 +109,14 @@ field_count_fault n count = when (count == 0 || nat_lt max_fields count) (fault 
 abbrev pub record_limit_fault : ℕ → Facts → Option Fault
 record_limit_fault n facts = when (nat_lt max_records (unwrap_or facts.record_count 0)) (fault kind.RecordLimit n (unwrap_or facts.record_count 0))
 
-abbrev pub fields_fault : Node → Option Fault
-fields_fault x = option_or (prototype_fault x.number (child_named (codes "prototype") (children_of x))) (field_count_fault x.number (length (fields_of x)))
+abbrev pub prototype_fields_fault : Node → Option Fault
+prototype_fields_fault x = option_or (prototype_fault x.number (child_named (codes "prototype") (children_of x))) (field_count_fault x.number (length (fields_of x)))
 
 -- what is tested of a CompressedVector alone
 unfoldable pub compressed_vector_fault : Node → Option ElementType → Option Fault
 compressed_vector_fault x (Some element_type.CompressedVector) =
     option_or (record_limit_fault x.number x.facts)
-    (option_or (codecs_fault x.number (child_named (codes "codecs") (children_of x))) (fields_fault x))
+    (option_or (codecs_fault x.number (child_named (codes "codecs") (children_of x))) (prototype_fields_fault x))
 compressed_vector_fault x other = None
 
 -- what is tested by the type

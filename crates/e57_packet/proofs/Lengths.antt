@@ -3,7 +3,7 @@ use Rattle.std.proofs.Common.{◌≡◌, ℕ, zero, suc, ◌+◌, ◌*◌, ◌^�
 use Rattle.std.specs.Prelude.{sum}
 use Rattle.std.proofs.lemmas.List.Sums.{sum_by-append, sum_by-cons}
 use Rattle.e57_bits.specs.Bits.{number}
-use Rattle.e57_bits.specs.BitLaws.{number-lt}
+use Rattle.e57_bits.proofs.BitLaws.{number-lt}
 use Rattle.e57_layout.specs.Packets.{lengths_at}
 use Rattle.e57_packet.specs.Reading.{stream_ends}
 

@@ -4,7 +4,7 @@ use Rattle.std.proofs.Math.Nat.{le_refl, mod-eq_of_lt}
 use Rattle.std.proofs.lemmas.List.{take_all}
 use Rattle.std.specs.Int.{bytes_low_first}
 use Rattle.e57_layout.specs.Bytes.{low_bytes}
-use Rattle.e57_layout.specs.Laws.Numbers.{low_bytes-zero, low_bytes-suc, length-low_bytes, little-low_bytes}
+use Rattle.e57_layout.proofs.Laws.Numbers.{low_bytes-zero, low_bytes-suc, length-low_bytes, little-low_bytes}
 use Rattle.e57_packet.specs.Reading.{Puts}
 
 -- one more piece of n bytes, behind those before it

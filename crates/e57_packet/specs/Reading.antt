@@ -32,8 +32,8 @@ pub record IsLengths (b : List ℕ) (q : ℕ) (ns : List ℕ) : Type 0 where
   pub lengths : lengths_at b (q + 6) (length ns) ≡ ns
 
 -- the first 16 bytes of an index packet by themselves: its type, its length, the number of its entries
-unfoldable pub is_misshapen_index : List ℕ → Bool
-is_misshapen_index bytes =
+unfoldable pub is_misshapen_head : List ℕ → Bool
+is_misshapen_head bytes =
     not (sort_at bytes 0 == 0)
     || (not (length_at bytes 0 % 4 == 0)
     || (entry_count_at bytes 0 == 0

@@ -3,7 +3,7 @@
 ghost use Rattle.std.specs.Prelude.{◌≡◌, ◌+◌, ◌≤◌, ◌<◌, ℕ, List, true, false, MatchResult};
 ghost use Rattle.e57_layout.specs.Standing.{Stands};
 ghost use Rattle.e57_layout.specs.IndexPackets.{index_head, entry_bytes, entry_at};
-ghost use Rattle.e57_packet.specs.Reading.{is_misshapen_index, index_head_at};
+ghost use Rattle.e57_packet.specs.Reading.{is_misshapen_head, index_head_at};
 
 use crate::numbers::{put, u8_at};
 use e57_base::Kind;
@@ -23,11 +23,11 @@ const MOST_ENTRIES: u16 = 2048;
 ///
 /// Refuses `IndexShape` where the packet's type isn't 0, its length is no multiple of 4, it has no entry or more than
 /// 2048, or its entries pass its length. Its level and its place in the section aren't judged.
-#[tactic(auto, unfolding(crate::specs::Reading::is_misshapen_index))]
+#[tactic(auto, unfolding(crate::specs::Reading::is_misshapen_head))]
 pub fn read_index_head(bytes: &[u8; 16]) -> Result<IndexHead, Kind>
     ensures { MatchResult result
-        (λ head. (is_misshapen_index bytes.now ≡ false) × (head ≡ index_head_at bytes.now 0))
-        (λ kind. (is_misshapen_index bytes.now ≡ true) × (kind ≡ Kind.IndexShape)) }
+        (λ head. (is_misshapen_head bytes.now ≡ false) × (head ≡ index_head_at bytes.now 0))
+        (λ kind. (is_misshapen_head bytes.now ≡ true) × (kind ≡ Kind.IndexShape)) }
 {
     let bytes = bytes.as_slice();
     let length = u16_at(bytes, 2) as u32 + 1;

@@ -13,9 +13,9 @@ use Rattle.e57_page.specs.declared.header.Header.{Header}
 use Rattle.e57_base.specs.Fault.{fault}
 use Rattle.e57_page.specs.Header.{signature, major_version, minor_version, physical_length, page_size, header_fault, header_of}
 use Rattle.e57_page.specs.File.{length_fault, page_fault, pages_fault, opening_fault}
-use Rattle.e57_page.specs.FileLaws.{whole_length, page_fault-right, page_fault-wrong, header_fault-page, header_of-page, pages_fault-zero, pages_fault-more}
+use Rattle.e57_page.proofs.FileLaws.{whole_length, page_fault-right, page_fault-wrong, header_fault-page, header_of-page, pages_fault-zero, pages_fault-more}
 use Rattle.e57_page.specs.Pages.{AsksFor, IsScanned, IsScannedTo, is_opening_kind}
-use Rattle.e57_page.specs.PagesLaws.{asks_for_none, asks_for_on, is_stopped_before}
+use Rattle.e57_page.proofs.PagesLaws.{asks_for_none, asks_for_on, is_stopped_before}
 use Rattle.e57_page.specs.Fetch.{IsFetched, IsNotFetched}
 
 -- a read of a page asks for it

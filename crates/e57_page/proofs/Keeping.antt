@@ -10,7 +10,7 @@ use Rattle.e57_page.specs.Header.{header_of}
 use Rattle.e57_page.specs.File.{opening_fault}
 use Rattle.e57_page.specs.Kept.{is_kept, is_later, numbers_with, pages_with, page_in, KeepsFirst, KeepsTo}
 use Rattle.e57_page.specs.Pages.{AsksFor, IsOpened}
-use Rattle.e57_page.specs.PagesLaws.{asks_for_none}
+use Rattle.e57_page.proofs.PagesLaws.{asks_for_none}
 use Rattle.e57_page.specs.Fetch.{IsPage, AreKept, IsSound, unless_kept}
 
 -- in its place page n is kept, or another page of that place

@@ -2,11 +2,12 @@
 use Rattle.std.proofs.Common.{◌≡◌, ℕ, Bool, true, false, cond, List, [], length, Option, Some, None, Result, Ok, Err, inl, inr, refl, sym, ap, subst, ◌∙◌, arith}
 use Rattle.std.specs.Prelude.{MatchOption, MatchResult}
 use Rattle.std.specs.Option.{option_or}
-use Rattle.e57_base.specs.Count.{rose_before}
+use Rattle.e57_base.proofs.CountLaws.{rose_before}
 use Rattle.e57_base.specs.Fault.{fault}
-use Rattle.e57_base.specs.Source.{SourceView, HoldsSize, Opens, Asks, same_file, asks_none}
-use Rattle.e57_base.specs.Opening.{opens_once, is_open}
-use Rattle.e57_base.specs.Told.{told_map, told_here, length_told}
+use Rattle.e57_base.specs.Source.{SourceView, HoldsSize, Opens, Asks}
+use Rattle.e57_base.proofs.SourceLaws.{same_file, asks_none}
+use Rattle.e57_base.proofs.OpeningLaws.{opens_once, is_open}
+use Rattle.e57_base.proofs.Told.{told_map, told_here, length_told}
 use Rattle.e57_base.specs.declared.fault.Failed.{Failed}
 use Rattle.e57_base.specs.declared.fault.Fault.{Fault}
 use Rattle.e57_base.specs.declared.fault.ReadFault.{ReadFault}

@@ -7,13 +7,13 @@ use Rattle.std.proofs.lemmas.Slice.{drop-put_mid}
 use Rattle.e57_base.specs.Source.{SourceView, HoldsSize, page_of}
 use Rattle.e57_base.specs.declared.fault.ReadFault.{ReadFault}
 use Rattle.e57_page.specs.Place.{span_end}
-use Rattle.e57_page.specs.PlaceLaws.{rises_on}
+use Rattle.e57_page.proofs.PlaceLaws.{rises_on}
 use Rattle.e57_page.specs.Kept.{is_kept, KeepsTo}
-use Rattle.e57_page.specs.KeptLaws.{keeps_none, keeps_on, unkept_on}
+use Rattle.e57_page.proofs.KeptLaws.{keeps_none, keeps_on, unkept_on}
 use Rattle.e57_page.specs.File.{logical, page_fault, pages_fault}
-use Rattle.e57_page.specs.FileLaws.{pages_fault-zero, pages_fault-more, logical-piece}
+use Rattle.e57_page.proofs.FileLaws.{pages_fault-zero, pages_fault-more, logical-piece}
 use Rattle.e57_page.specs.Pages.{AsksFor, AsksUnkept, ReadsRange, IsCutAt}
-use Rattle.e57_page.specs.PagesLaws.{asks_for_none, asks_for_on, is_stopped_before}
+use Rattle.e57_page.proofs.PagesLaws.{asks_for_none, asks_for_on, is_stopped_before}
 use Rattle.e57_page.specs.Fetch.{IsPage, IsNotFetched, unless_kept, before_page, page_piece, with_part, SameBetween, ReadsPiece, HasRead}
 use Rattle.e57_page.proofs.Fetching.{told_right, told_later}
 

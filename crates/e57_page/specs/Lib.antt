@@ -1,12 +1,8 @@
 pub mod Place
-pub mod PlaceLaws
 pub mod Kept
-pub mod KeptLaws
 pub mod Header
 pub mod File
-pub mod FileLaws
 pub mod XmlSection
 pub mod Pages
 pub mod Fetch
-pub mod PagesLaws
 pub mod Opening

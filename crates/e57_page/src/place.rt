@@ -28,7 +28,7 @@ pub fn physical_of(logical: u64) -> u64
 }
 
 /// A law: a place has one physical offset, so `physical_of` can answer no other.
-#[tactic(auto, using(crate::specs::PlaceLaws::one_physical))]
+#[tactic(auto, using(crate::proofs::PlaceLaws::one_physical))]
 pub fn one_physical()
     ensures { (a b q : ℕ) → place a ≡ Some q → place b ≡ Some q → a ≡ b }
 {}

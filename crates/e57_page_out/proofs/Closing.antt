@@ -3,18 +3,18 @@ use Rattle.std.proofs.Common.{◌≡◌, ℕ, ◌+◌, ◌-◌, ◌*◌, ◌≤�
 use Rattle.std.specs.Option.{option_map}
 use Rattle.std.proofs.lemmas.Bool.Decides.{nat_tests}
 use Rattle.std.proofs.lemmas.List.{append_assoc, append-nil, length-append, length-drop, drop_at, take_at, get_or-replicate, get_or_append_left}
-use Rattle.e57_base.specs.Count.{rose_before}
+use Rattle.e57_base.proofs.CountLaws.{rose_before}
 use Rattle.e57_base.specs.Target.{TargetView, PutsPage, Finishes, Torn, TornWhereTold, with_page}
 use Rattle.e57_base.specs.declared.fault.Failed.{Failed}
 use Rattle.e57_page.specs.File.{logical}
 use Rattle.e57_page.specs.declared.header.Header.{Header}
 use Rattle.e57_page_out.specs.Buffer.{number_held, bytes_so_far, IsRow, IsSoundUnless, writing}
 use Rattle.e57_page_out.specs.HeaderBytes.{header_bytes}
-use Rattle.e57_page_out.specs.HeaderLaws.{length-header_bytes}
+use Rattle.e57_page_out.proofs.HeaderLaws.{length-header_bytes}
 use Rattle.e57_page_out.specs.Sealed.{page_bytes, sealed, filled, pages_for}
-use Rattle.e57_page_out.specs.SealedLaws.{length-page_bytes}
+use Rattle.e57_page_out.proofs.SealedLaws.{length-page_bytes}
 use Rattle.e57_page_out.specs.Writing.{Writing, Writes, IsBeingWritten, KeepsTarget, closed_file, IsClosed, IsHeadless, HeadlessWhereTold, IsNotClosed}
-use Rattle.e57_page_out.specs.WritingLaws.{length-filled, closed_filled, keeps_both}
+use Rattle.e57_page_out.proofs.WritingLaws.{length-filled, closed_filled, keeps_both}
 use Rattle.e57_page_out.specs.declared.buffer.Buffer.{Buffer}
 use Rattle.e57_page_out.specs.declared.buffer.Held.{Held}
 use Rattle.e57_page_out.specs.declared.buffer.Held.TheVariants.{Nothing, Begun, Whole}

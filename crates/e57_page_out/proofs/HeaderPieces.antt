@@ -5,7 +5,7 @@ use Rattle.e57_base.specs.MemTarget.{with_piece}
 use Rattle.e57_layout.specs.Bytes.{low_bytes}
 use Rattle.e57_page.specs.declared.header.Header.{Header}
 use Rattle.e57_page_out.specs.HeaderBytes.{header_bytes}
-use Rattle.e57_page_out.specs.PieceLaws.{piece-next}
+use Rattle.e57_page_out.proofs.PieceLaws.{piece-next}
 
 -- the first bytes are these, so many, and the others are as they were
 pub record Fronted (old front : List ℕ) (count : ℕ) (now : List ℕ) : Type 0 where

@@ -9,9 +9,9 @@ use Rattle.e57_base.specs.Target.{TargetView, PutsPage, with_page}
 use Rattle.e57_base.specs.declared.fault.Failed.{Failed}
 use Rattle.e57_page.specs.File.{logical}
 use Rattle.e57_page_out.specs.Buffer.{number_held, begun_bytes, bytes_so_far, size_so_far, patched, IsRow, IsSound, writing}
-use Rattle.e57_page_out.specs.PieceLaws.{length-piece, piece-behind, piece-before, piece-front}
+use Rattle.e57_page_out.proofs.PieceLaws.{length-piece, piece-behind, piece-before, piece-front}
 use Rattle.e57_page_out.specs.Sealed.{page_bytes}
-use Rattle.e57_page_out.specs.SealedLaws.{length-page_bytes}
+use Rattle.e57_page_out.proofs.SealedLaws.{length-page_bytes}
 use Rattle.e57_page_out.specs.Writing.{Writing, Writes, IsBrokenOff}
 use Rattle.e57_page_out.specs.declared.buffer.Buffer.{Buffer}
 use Rattle.e57_page_out.specs.declared.buffer.Held.{Held}

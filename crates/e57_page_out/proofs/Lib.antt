@@ -1,3 +1,7 @@
+pub mod PieceLaws
+pub mod HeaderLaws
+pub mod SealedLaws
+pub mod WritingLaws
 pub mod HeaderPieces
 pub mod Words
 pub mod Rows
@@ -9,3 +13,5 @@ pub mod Opening
 pub mod Holding
 pub mod Putting
 pub mod Closing
+pub mod Sequences
+pub mod Places

@@ -2,7 +2,7 @@
 use Rattle.std.proofs.Common.{◌≡◌, ℕ, ◌+◌, false, List, [], replicate, slice_index, Option, Some, None, IfSome, Ok, Err, refl, sym, ap, subst, ◌∙◌, arith, lit≤, lit<, if◌then◌else◌, ◌==◌}
 use Rattle.std.specs.Option.{option_map}
 use Rattle.std.proofs.lemmas.List.{append-nil}
-use Rattle.e57_base.specs.Count.{rose_before}
+use Rattle.e57_base.proofs.CountLaws.{rose_before}
 use Rattle.e57_base.specs.Target.{TargetView, Creates, PutsPage, with_page, emptied}
 use Rattle.e57_base.specs.declared.fault.Failed.{Failed}
 use Rattle.e57_page_out.specs.Buffer.{bytes_so_far, begun_first, IsRow, IsSound, writing}

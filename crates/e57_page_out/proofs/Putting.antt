@@ -5,7 +5,7 @@ use Rattle.std.specs.Prelude.{IsSomeAnd}
 use Rattle.std.specs.Option.{option_map}
 use Rattle.std.proofs.Math.Seq.{take-add}
 use Rattle.std.proofs.lemmas.List.{append_assoc, append-nil, length-append, length-take, length-drop, take_all}
-use Rattle.e57_base.specs.Count.{rose_before}
+use Rattle.e57_base.proofs.CountLaws.{rose_before}
 use Rattle.e57_base.specs.Target.{TargetView}
 use Rattle.e57_base.specs.declared.fault.PutFault.TheVariants.{Target}
 use Rattle.e57_page_out.specs.Buffer.{IsSound, IsSoundUnless, writing}
@@ -13,7 +13,7 @@ use Rattle.e57_page_out.specs.Sealed.{pages_for}
 use Rattle.e57_page_out.specs.Writing.{Writing, Writes, IsBrokenOff, IsTooLarge, IsNotPut, IsBeingWritten, most_bytes}
 use Rattle.e57_page_out.specs.declared.buffer.Buffer.{Buffer}
 use Rattle.e57_page_out.proofs.States.{pages_so_far, unfinished_told}
-use Rattle.e57_page_out.specs.WritingLaws.{keeps_none, keeps_both}
+use Rattle.e57_page_out.proofs.WritingLaws.{keeps_none, keeps_both}
 use Rattle.e57_page_out.proofs.Steps.{by_sound}
 
 -- the bytes that lie before page n were put

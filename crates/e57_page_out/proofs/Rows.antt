@@ -7,12 +7,12 @@ use Rattle.e57_page.specs.File.{logical}
 use Rattle.e57_page.specs.declared.header.Header.{Header}
 use Rattle.e57_page_out.specs.Buffer.{IsRow}
 use Rattle.e57_page_out.specs.HeaderBytes.{header_bytes}
-use Rattle.e57_page_out.specs.HeaderLaws.{length-header_bytes}
-use Rattle.e57_page_out.specs.PieceLaws.{length-piece, piece-between, piece-behind}
+use Rattle.e57_page_out.proofs.HeaderLaws.{length-header_bytes}
+use Rattle.e57_page_out.proofs.PieceLaws.{length-piece, piece-between, piece-behind}
 use Rattle.e57_page_out.specs.Sealed.{page_bytes, sealed, filled, pages_for}
-use Rattle.e57_page_out.specs.SealedLaws.{length-page_bytes, sealed-zero, sealed-suc, length-sealed, sealed-append, sealed-one, logical-behind}
+use Rattle.e57_page_out.proofs.SealedLaws.{length-page_bytes, sealed-zero, sealed-suc, length-sealed, sealed-append, sealed-one, logical-behind}
 use Rattle.e57_page_out.specs.Writing.{closed_file}
-use Rattle.e57_page_out.specs.WritingLaws.{filled_whole, pages_whole, length-filled}
+use Rattle.e57_page_out.proofs.WritingLaws.{filled_whole, pages_whole, length-filled}
 
 -- page 0, before the file is closed
 abbrev blank : List ℕ

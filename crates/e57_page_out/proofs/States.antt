@@ -4,10 +4,10 @@ use Rattle.std.specs.Prelude.{is_some}
 use Rattle.std.specs.Option.{option_map}
 use Rattle.std.proofs.lemmas.List.{length-append, length-take-le}
 use Rattle.e57_base.specs.Target.{TargetView}
-use Rattle.e57_base.specs.Told.{told_map}
+use Rattle.e57_base.proofs.Told.{told_map}
 use Rattle.e57_page.specs.File.{logical}
 use Rattle.e57_page_out.specs.Buffer.{number_held, laid_over, begun_bytes, bytes_so_far, size_so_far, IsRow, IsHeldBelow, IsSound, writing}
-use Rattle.e57_page_out.specs.PieceLaws.{length-piece}
+use Rattle.e57_page_out.proofs.PieceLaws.{length-piece}
 use Rattle.e57_page_out.specs.Sealed.{filled}
 use Rattle.e57_page_out.specs.Writing.{IsUnfinished, IsBeingWritten}
 use Rattle.e57_page_out.specs.declared.buffer.Buffer.{Buffer}

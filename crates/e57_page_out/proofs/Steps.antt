@@ -7,7 +7,7 @@ use Rattle.e57_base.specs.declared.fault.Failed.{Failed}
 use Rattle.e57_page_out.specs.Buffer.{number_held, bytes_so_far, size_so_far, ended_payload, turned, appended, IsRow, IsSound, IsSoundUnless, writing}
 use Rattle.e57_page_out.specs.Sealed.{page_bytes, filled, pages_for}
 use Rattle.e57_page_out.specs.Writing.{Writing, Writes, IsBrokenOff, most_bytes}
-use Rattle.e57_page_out.specs.WritingLaws.{keeps_none}
+use Rattle.e57_page_out.proofs.WritingLaws.{keeps_none}
 use Rattle.e57_page_out.specs.declared.buffer.Buffer.{Buffer}
 use Rattle.e57_page_out.proofs.States.{sound_state, length_so_far}
 use Rattle.e57_page_out.proofs.Turning.{turned_sound, turned_bytes, number_turned, broken_off, told_appended, appended_sound, appended_ready, begun_ready}

@@ -5,13 +5,13 @@ use Rattle.std.specs.Option.{option_map}
 use Rattle.std.proofs.lemmas.List.{append_assoc, append-nil, length-append, length-take-le, length-replicate, take_at}
 use Rattle.e57_base.specs.MemTarget.{with_piece}
 use Rattle.e57_base.specs.Target.{TargetView, PutsPage, with_page}
-use Rattle.e57_base.specs.Told.{told_map}
+use Rattle.e57_base.proofs.Told.{told_map}
 use Rattle.e57_base.specs.declared.fault.Failed.{Failed}
 use Rattle.e57_page.specs.File.{logical}
 use Rattle.e57_page_out.specs.Buffer.{number_held, laid_over, begun_bytes, bytes_so_far, size_so_far, ended_payload, held_after, kept_after, turned, appended, IsRow, IsHeldBelow, IsSound, writing}
-use Rattle.e57_page_out.specs.PieceLaws.{length-piece, piece-between, piece-before}
+use Rattle.e57_page_out.proofs.PieceLaws.{length-piece, piece-between, piece-before}
 use Rattle.e57_page_out.specs.Sealed.{page_bytes}
-use Rattle.e57_page_out.specs.SealedLaws.{take-page_bytes, length-page_bytes}
+use Rattle.e57_page_out.proofs.SealedLaws.{take-page_bytes, length-page_bytes}
 use Rattle.e57_page_out.specs.Writing.{Writing, IsBrokenOff}
 use Rattle.e57_page_out.specs.declared.buffer.Buffer.{Buffer}
 use Rattle.e57_page_out.specs.declared.buffer.Held.{Held}

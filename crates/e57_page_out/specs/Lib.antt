@@ -1,8 +1,5 @@
 pub mod Sealed
 pub mod HeaderBytes
 pub mod Writing
+pub mod Sequences
 pub mod Buffer
-pub mod PieceLaws
-pub mod HeaderLaws
-pub mod SealedLaws
-pub mod WritingLaws

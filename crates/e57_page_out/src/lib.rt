@@ -4,12 +4,12 @@
 mod buffer;
 mod bytes;
 mod header;
-mod laws;
 mod pages_out;
+mod theorems;
 
 pub use header::write_header;
-pub use laws::{closed_pages, unfinished_faults};
 pub use pages_out::PagesOut;
+pub use theorems::{closed_pages, unfinished_faults};
 
 #[cfg(test)]
 mod tests;

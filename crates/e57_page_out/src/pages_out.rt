@@ -7,6 +7,7 @@ ghost use Rattle.e57_base.specs.Target.{TakesPage, PutsPage};
 ghost use Rattle.e57_page.specs.Place.{payload_length, place};
 ghost use Rattle.e57_page_out.specs.Buffer.{ended_payload, turned};
 ghost use Rattle.e57_page_out.specs.Sealed.{filled, page_bytes, pages_for};
+ghost use Rattle.e57_page_out.specs.Sequences.{Leaves};
 ghost use Rattle.e57_page_out.specs.Writing.{most_bytes, IsBeingWritten, IsBegun, IsNotBegun, Writes, IsBrokenOff, IsNotPut, IsClosed, IsNotClosed};
 
 use crate::buffer::{Buffer, Held, PAYLOAD, append, complete, first_buffer, patch, seal, turn};
@@ -196,8 +197,17 @@ impl<T: Target> PagesOut<T> {
         Ok(1024 * pages)
     }
 
-    /// The number of the logical bytes so far.
-    fn size(&self) -> u64
+    /// Gives the file up: nothing is put, and the value is spent, as after a refusal. What the target holds is no file.
+    pub fn give_up(&mut self)
+        requires unspent { self.old.is_spent ≡ false }
+        ensures spent { self.new ≡ record self.old { is_spent = true } }
+        ensures left { Leaves T.view self.old (T.view self.new.target) }
+    {
+        self.is_spent = true;
+    }
+
+    /// The number of the logical bytes so far, those of page 0 with them: the logical place of the next byte.
+    pub fn size(&self) -> u64
         requires unspent { self.now.is_spent ≡ false }
         ensures size { result ≡ self.now.size }
         ensures state { IsBeingWritten T.view self.now }

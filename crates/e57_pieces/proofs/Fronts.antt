@@ -10,6 +10,7 @@ use Rattle.e57_pieces.specs.Characters.{clean_len, forbids}
 use Rattle.e57_pieces.specs.Words.{is_plain, begins_name, goes_on_name}
 use Rattle.e57_pieces.specs.Start.{strip}
 use Rattle.e57_pieces.specs.Reading.{run, after, cut_at, name_at}
+use Rattle.e57_base.proofs.Options.{option_cases}
 
 -- a class holds up to n, and fails there
 pub run_to : (p : ℕ → Bool) (xs : List ℕ) (n : ℕ) → n ≤ length xs → ((k : ℕ) → k < n → p (get_or xs k 0) ≡ true) → (n < length xs → p (get_or xs n 0) ≡ false) → (run p xs ≡ take n xs) × (after p xs ≡ drop n xs)
@@ -69,13 +70,9 @@ occurs_from (p ∷ ps) (b ∷ bs) rest e =
       | inr fails ↦ let f : None ≡ Some rest = rw fails at e in absurd cc
     ]
 
-pub seen : {A : Type 0} (o : Option A) → (o ≡ None) ⊎ ((x : A) × (o ≡ Some x))
-seen None = inl refl
-seen (Some x) = inr (x, refl)
-
 strip_none : (word text : List ℕ) → (OccursAt text word 0 → ⊥) → strip word text ≡ None
 strip_none word text never =
-    elim (seen (strip word text)) [
+    elim (option_cases (strip word text)) [
       | inl none ↦ none
       | inr some ↦ absurd (never (occurs_from word text some.0 some.1))
     ]

@@ -7,7 +7,7 @@ use Rattle.std.proofs.lemmas.List.{append-nil, drop_more, drop_all}
 use Rattle.std.proofs.lemmas.Bool.{ne_eqb}
 use Rattle.e57_pieces.specs.declared.piece.Attr.{Attr}
 use Rattle.e57_pieces.specs.Words.{numeral_from}
-use Rattle.e57_pieces.specs.Laws.References.{no_reference}
+use Rattle.e57_pieces.proofs.Laws.References.{no_reference}
 use Rattle.e57_pieces.specs.Reading.{run, after, reference_at, parts_at, attr_at, attrs_at}
 
 -- ---- numbers

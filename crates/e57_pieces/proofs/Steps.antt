@@ -12,9 +12,9 @@ use Rattle.e57_pieces.specs.Cut.{NoPiece, IsNext}
 use Rattle.e57_pieces.specs.Start.{after_mark, declares, Begins}
 use Rattle.e57_pieces.specs.Reading.{piece_at, declaration_at, IsCleanAt}
 use Rattle.e57_pieces.specs.Gives.{Stops, StopsNext, DeclaredBefore, DeclaredClean, StopsDeclaration, StopsStart}
-use Rattle.e57_pieces.specs.Laws.Characters.{IsUtf8-after, IsClean-clean_len, clean_len_le}
-use Rattle.e57_pieces.specs.Laws.Next.{next_read, none_told, IsUtf8-next}
-use Rattle.e57_pieces.specs.Laws.Start.{declaration_read, declaration_none, IsUtf8-after_mark}
+use Rattle.e57_pieces.proofs.Laws.Characters.{IsUtf8-after, IsClean-clean_len, clean_len_le}
+use Rattle.e57_pieces.proofs.Laws.Next.{next_read, none_told, IsUtf8-next}
+use Rattle.e57_pieces.proofs.Laws.Start.{declaration_read, declaration_none, IsUtf8-after_mark}
 
 whole : (text : List ℕ) (n : ℕ) → take n text ++ drop n text ≡ text
 whole text n = take-append-drop n text

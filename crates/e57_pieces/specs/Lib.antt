@@ -5,4 +5,3 @@ pub mod Cut
 pub mod Start
 pub mod Reading
 pub mod Gives
-pub mod Laws

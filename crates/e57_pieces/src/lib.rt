@@ -3,19 +3,19 @@
 
 mod attributes;
 mod characters;
-mod laws;
 mod markup;
 mod piece;
 mod pieces;
 mod start;
 mod stop;
 mod text;
+mod theorems;
 mod words;
 
 pub use characters::valid_len;
-pub use laws::one_cut;
 pub use piece::{Attr, Attrs, Piece};
 pub use pieces::Pieces;
+pub use theorems::one_cut;
 
 #[cfg(test)]
 mod tests;

@@ -29,7 +29,7 @@ use Rattle.std.specs.Fmt.{digits}
 use Rattle.e57_nodes.specs.Limits.{with_value_or_new, has_room}
 use Rattle.e57_plain.specs.Tight.{range_in, tight}
 use Rattle.e57_plain.specs.Kept.{Selection, passes, kept}
-use Rattle.e57_plain.specs.Laws.Whole.{plain-is, AreSpelled, plain-content, plain-accepted}
+use Rattle.e57_plain.proofs.Laws.Whole.{plain-is, AreSpelled, plain-content, plain-accepted}
 use Rattle.std.specs.Prelude.{pos, replicate, codes, length, true, false}
 use Rattle.std.proofs.lemmas.Int.{ints}
 use Rattle.e57_pieces.specs.Characters.{is_character}

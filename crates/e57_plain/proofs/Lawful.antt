@@ -11,11 +11,7 @@ use Rattle.e57_pieces.specs.Grammar.{differ}
 use Rattle.e57_pieces.specs.Words.{begins_name, goes_on_name, IsName, Each}
 use Rattle.e57_elements.specs.declared.tree.RawNode.{RawNode}
 use Rattle.e57_elements.specs.Lawful.{IsLawfulAttr, IsLawfulNode}
-
-pub and-parts : (a b : Bool) → (a && b) ≡ true → (a ≡ true) × (b ≡ true)
-and-parts true true is = (refl, refl)
-and-parts true false is = absurd (cc)
-and-parts false b is = absurd (cc)
+use Rattle.std.proofs.lemmas.Bool.{and_parts}
 
 abbrev pub is_ascii : ℕ → Bool
 is_ascii b = nat_lt b 128 && is_character b
@@ -26,8 +22,8 @@ ascii bytes are = record { numbers = bytes; each = each bytes are; spelled = spe
     each : (bs : List ℕ) → list_all is_ascii bs ≡ true → AllByRecursion (λ c. is_character c ≡ true) bs
     each [] h = tt
     each (b ∷ bs) h =
-        let parts = and-parts (is_ascii b) (list_all is_ascii bs) h in
-        ((and-parts (nat_lt b 128) (is_character b) parts.0).1, each bs parts.1)
+        let parts = and_parts (is_ascii b) (list_all is_ascii bs) h in
+        ((and_parts (nat_lt b 128) (is_character b) parts.0).1, each bs parts.1)
 
     small : (b : ℕ) → nat_lt b 128 ≡ true → b < 128
     small b h = grind (arith, nat_tests)
@@ -35,8 +31,8 @@ ascii bytes are = record { numbers = bytes; each = each bytes are; spelled = spe
     spelled : (bs : List ℕ) → list_all is_ascii bs ≡ true → encode_utf8_all bs ≡ bs
     spelled [] h = refl
     spelled (b ∷ bs) h =
-        let parts = and-parts (is_ascii b) (list_all is_ascii bs) h in
-        let below : b < 128 = small b (and-parts (nat_lt b 128) (is_character b) parts.0).0 in
+        let parts = and_parts (is_ascii b) (list_all is_ascii bs) h in
+        let below : b < 128 = small b (and_parts (nat_lt b 128) (is_character b) parts.0).0 in
         ap (λ front. front ++ encode_utf8_all bs) (encode_ascii b below) ∙ ap (λ rest. b ∷ rest) (spelled bs parts.1)
 
 abbrev pub is_name : List ℕ → Bool
@@ -45,23 +41,23 @@ is_name (b ∷ bs) = begins_name b && list_all goes_on_name bs
 
 name : (bytes : List ℕ) → is_name bytes ≡ true → IsName bytes
 name [] is = absurd (cc)
-name (b ∷ bs) is = let parts = and-parts (begins_name b) (list_all goes_on_name bs) is in (parts.0, each bs parts.1) where
+name (b ∷ bs) is = let parts = and_parts (begins_name b) (list_all goes_on_name bs) is in (parts.0, each bs parts.1) where
   each : (cs : List ℕ) → list_all goes_on_name cs ≡ true → Each goes_on_name cs
   each [] h = tt
-  each (c ∷ cs) h = let parts = and-parts (goes_on_name c) (list_all goes_on_name cs) h in (parts.0, each cs parts.1)
+  each (c ∷ cs) h = let parts = and_parts (goes_on_name c) (list_all goes_on_name cs) h in (parts.0, each cs parts.1)
 
 abbrev pub is_attr : Attr → Bool
 is_attr attr = is_name attr.name && (list_all is_ascii attr.name && list_all is_ascii attr.value)
 
 attr : (a : Attr) → is_attr a ≡ true → IsLawfulAttr a
 attr a is =
-    let first = and-parts (is_name a.name) (list_all is_ascii a.name && list_all is_ascii a.value) is in
-    let rest = and-parts (list_all is_ascii a.name) (list_all is_ascii a.value) first.1 in
+    let first = and_parts (is_name a.name) (list_all is_ascii a.name && list_all is_ascii a.value) is in
+    let rest = and_parts (list_all is_ascii a.name) (list_all is_ascii a.value) first.1 in
     record { is_name = name a.name first.0; name = ascii a.name rest.0; value = ascii a.value rest.1 }
 
 attrs : (xs : List Attr) → list_all is_attr xs ≡ true → AllByRecursion IsLawfulAttr xs
 attrs [] h = tt
-attrs (a ∷ rest) h = let parts = and-parts (is_attr a) (list_all is_attr rest) h in (attr a parts.0, attrs rest parts.1)
+attrs (a ∷ rest) h = let parts = and_parts (is_attr a) (list_all is_attr rest) h in (attr a parts.0, attrs rest parts.1)
 
 abbrev pub is_empty : List ℕ → Bool
 is_empty [] = true
@@ -84,10 +80,10 @@ no-text (b ∷ bs) is = absurd (cc)
 
 node : (x : RawNode) → is_node x ≡ true → IsLawfulNode x
 node x is =
-    let a = and-parts (is_attr (record { name = x.name; value = [] })) (list_all is_attr x.attrs && (differ x.attrs && (nat_le (length x.attrs) 64 && is_empty x.text))) is in
-    let b = and-parts (list_all is_attr x.attrs) (differ x.attrs && (nat_le (length x.attrs) 64 && is_empty x.text)) a.1 in
-    let c = and-parts (differ x.attrs) (nat_le (length x.attrs) 64 && is_empty x.text) b.1 in
-    let d = and-parts (nat_le (length x.attrs) 64) (is_empty x.text) c.1 in
+    let a = and_parts (is_attr (record { name = x.name; value = [] })) (list_all is_attr x.attrs && (differ x.attrs && (nat_le (length x.attrs) 64 && is_empty x.text))) is in
+    let b = and_parts (list_all is_attr x.attrs) (differ x.attrs && (nat_le (length x.attrs) 64 && is_empty x.text)) a.1 in
+    let c = and_parts (differ x.attrs) (nat_le (length x.attrs) 64 && is_empty x.text) b.1 in
+    let d = and_parts (nat_le (length x.attrs) 64) (is_empty x.text) c.1 in
     let own = attr (record { name = x.name; value = [] }) a.0 in
     let none = empty x.text d.1 in
     record {
@@ -102,4 +98,4 @@ node x is =
 
 pub nodes : (xs : List RawNode) → list_all is_node xs ≡ true → AllByRecursion IsLawfulNode xs
 nodes [] h = tt
-nodes (x ∷ xs) h = let parts = and-parts (is_node x) (list_all is_node xs) h in (node x parts.0, nodes xs parts.1)
+nodes (x ∷ xs) h = let parts = and_parts (is_node x) (list_all is_node xs) h in (node x parts.0, nodes xs parts.1)

@@ -1,3 +1,4 @@
+pub mod Laws
 mod Cases
 mod Lawful
 mod Columns

@@ -27,7 +27,7 @@ use Rattle.e57_verdict.specs.Things.{records_body}
 use Rattle.e57_verdict.specs.Content.{Content, IsContent}
 use Rattle.e57_plain.specs.Written.{whole_pages, xml_page, page_count, file_header, finished_bytes, finished, body_section, sections_from, offsets_from, sections_of, written_tree, written_text, plain, Fits, IsWritable}
 use Rattle.std.specs.Fmt.{digits}
-use Rattle.e57_plain.specs.Laws.Whole.{plain-is, AreSpelled, plain-content, plain-accepted}
+use Rattle.e57_plain.proofs.Laws.Whole.{plain-is, AreSpelled, plain-content, plain-accepted}
 use Rattle.std.specs.Prelude.{pos, replicate, codes, length}
 use Rattle.e57_pieces.specs.Characters.{is_character}
 use Rattle.e57_elements.specs.Lawful.{IsLawful}

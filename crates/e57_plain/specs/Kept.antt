@@ -32,8 +32,8 @@ is_between low high (whole z) = int_le low z && int_le z high
 is_between low high other = false
 
 -- the item of a record
-abbrev pub item_of : List (List Value) → ℕ → ℕ → Value
-item_of columns field i = get_or (get_or columns field []) i (octets [])
+abbrev pub column_value : List (List Value) → ℕ → ℕ → Value
+column_value columns field i = get_or (get_or columns field []) i (octets [])
 
 -- record i of these columns is kept
 unfoldable pub passes : Selection → List (List Value) → ℕ → Bool
@@ -41,7 +41,7 @@ passes selection columns i =
     nat_le selection.from i
     && (nat_lt i selection.until
     && ((i - selection.from) % selection.every == 0
-    && list_all (λ (test : Test). is_between test.low test.high (item_of columns test.field i)) selection.tests))
+    && list_all (λ (test : Test). is_between test.low test.high (column_value columns test.field i)) selection.tests))
 
 -- ---- their items
 

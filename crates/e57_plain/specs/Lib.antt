@@ -3,4 +3,3 @@ pub mod Written
 pub mod Tight
 pub mod Pruned
 pub mod Kept
-pub mod Laws

@@ -4,7 +4,7 @@ use Rattle.e57_elements.specs.Lawful.{IsLawful}
 use Rattle.e57_layout.specs.declared.field.Field.{Field}
 use Rattle.e57_layout.specs.Values.{ItemKind}
 use Rattle.e57_layout.specs.Items.{AreColumns}
-use Rattle.e57_sections.specs.Laws.Columns.{kinds_of}
+use Rattle.e57_cloud.specs.Cloud.{kinds_of}
 use Rattle.e57_nodes.specs.Shape.{shape_of}
 use Rattle.e57_nodes.specs.Typed.{typed_fault}
 use Rattle.e57_nodes.specs.Items.{StatedItem, stated_cloud, stated_blob, stated_items, leaves_of}

@@ -2,6 +2,6 @@
 //! Definitions and their laws; no call computes them here.
 #![tactic(auto)]
 
-mod laws;
+mod theorems;
 
-pub use laws::{accepted_content, kept_records, narrow_limits, written_form};
+pub use theorems::{accepted_content, kept_records, narrow_limits, written_form};

@@ -1,24 +1,12 @@
 -- Limits that need all of so many bits.
-use Rattle.std.proofs.Common.{◌≡◌, ℕ, suc, ◌+◌, ◌-◌, ◌*◌, ◌/◌, ◌%◌, ◌^◌, ◌<◌, ◌≤◌, sym, ap, ◌∙◌, arith, subst, ⊎_elim}
+use Rattle.std.proofs.Common.{◌≡◌, ℕ, ◌-◌, ◌/◌, ◌^◌, ◌<◌, ◌≤◌, arith, subst, ⊎_elim}
 use Rattle.std.specs.Prelude.{ℤ}
 use Rattle.std.specs.Int.{int_gap}
-use Rattle.std.proofs.Math.Nat.{pow-suc}
 use Rattle.std.proofs.Math.Pow.{pow_mono}
-use Rattle.std.proofs.lemmas.Nat.{pow_pos}
 use Rattle.std.proofs.lemmas.Bool.{cases_lt}
 use Rattle.e57_layout.specs.Widths.{width}
-use Rattle.e57_layout.specs.Laws.Widths.{width-holds, width-least}
-
--- a number of which the highest of w bits is one
-highest_bit : (n w : ℕ) → 0 < w → n / 2 ^ (w - 1) ≡ 1 → (2 ^ (w - 1) ≤ n) × (n < 2 ^ w)
-highest_bit n w some one =
-    let power : 0 < 2 ^ (w - 1) = pow_pos (w - 1) in
-    let parts : 2 ^ (w - 1) * (n / 2 ^ (w - 1)) ≡ 2 ^ (w - 1) * 1 = ap (λ (q : ℕ). 2 ^ (w - 1) * q) one in
-    let rest : n % 2 ^ (w - 1) < 2 ^ (w - 1) = omega (arith, power) in
-    let all : 2 ^ (w - 1) * (n / 2 ^ (w - 1)) + n % 2 ^ (w - 1) ≡ n = omega arith in
-    let next : suc (w - 1) ≡ w = omega (arith, some) in
-    let twice : 2 ^ w ≡ 2 ^ (w - 1) * 2 = ap (λ (i : ℕ). 2 ^ i) (sym next) ∙ pow-suc 2 (w - 1) in
-    (omega (arith, parts, rest, all), omega (arith, parts, rest, all, twice))
+use Rattle.e57_layout.proofs.Laws.Widths.{width-holds, width-least}
+use Rattle.e57_stream.proofs.Ranges.{highest_bit}
 
 pub width-all : (low high : ℤ) (w gap : ℕ) → 0 < w → w ≤ 64 → gap ≡ int_gap low high → gap / 2 ^ (w - 1) ≡ 1 → w ≡ width low high
 width-all low high w gap some most is one =

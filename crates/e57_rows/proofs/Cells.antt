@@ -6,8 +6,8 @@ use Rattle.std.proofs.lemmas.List.{get_or_default, length-map, take_all}
 use Rattle.csv.specs.declared.writer.Writer.{Writer}
 use Rattle.e57_layout.specs.declared.field.Field.{Field}
 use Rattle.e57_column.specs.Column.{kind_of}
-use Rattle.e57_records.specs.declared.block.Item.{Item}
-use Rattle.e57_records.specs.Block.{Block, item_of, item_value, IsOfKind}
+use Rattle.e57_blocks.specs.declared.block.Item.{Item}
+use Rattle.e57_blocks.specs.Block.{Block, held_item, item_value, IsOfKind}
 use Rattle.e57_rows.specs.Cells.{cell, item_text}
 use Rattle.e57_rows.specs.Rows.{field_at, no_field}
 use Rattle.e57_rows.specs.Blocks.{cell_at}
@@ -36,7 +36,7 @@ path_more contents base fields asked k field path writer below are is row =
     rw cells (subst (λ (t : List ℕ). InRow contents base (map (λ (f : ℕ). (field_at fields f).path) (take k asked) ++ t ∷ []) writer) text row)
 
 pub cell_more : {W : Type 0} (contents : W → Option (List ℕ)) (base : Option (List ℕ)) (blocks : List Block) (i j : ℕ) (block : Block) (item : Item) (writer : Writer W)
-    → j < length blocks → block ≡ get_or blocks j block → item_value item ≡ item_of block (i - block.first) → IsOfKind (kind_of block.column.items) item
+    → j < length blocks → block ≡ get_or blocks j block → item_value item ≡ held_item block (i - block.first) → IsOfKind (kind_of block.column.items) item
     → InRow contents base (map (cell_at i) (take j blocks) ++ item_text item ∷ []) writer → InRow contents base (map (cell_at i) (take (j + 1) blocks)) writer
 cell_more contents base blocks i j block item writer below is value kind row =
     let text : item_text item ≡ cell_at i block = text_cell (kind_of block.column.items) item kind ∙ ap (cell (kind_of block.column.items)) value in

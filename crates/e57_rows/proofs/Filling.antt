@@ -1,41 +1,20 @@
 -- One block filled.
-use Rattle.std.specs.Prelude.{◌≡◌, ℕ, ◌+◌, ◌<◌, ◌≤◌, false, List, Option, Some, None, IfSome, IsErrAnd, Result, Ok, Err, MatchResult}
+use Rattle.std.specs.Prelude.{◌≡◌, ℕ, ◌+◌, ◌<◌, ◌≤◌, false, Option, Some, None, IfSome, Result, Ok, Err, MatchResult}
 use Rattle.std.proofs.Common.{refl, sym, subst, ◌∙◌, arith, inl, inr}
 use Rattle.std.proofs.lemmas.Bool.Decides.{nat_tests}
 use Rattle.e57_base.specs.Source.{SourceView}
-use Rattle.e57_base.specs.Told.{told_map, told_both}
+use Rattle.e57_base.proofs.Told.{told_map, told_both}
 use Rattle.e57_base.specs.declared.fault.Fault.{Fault}
 use Rattle.e57_base.specs.declared.fault.OpenFault.{OpenFault}
 use Rattle.e57_base.specs.declared.fault.OpenFault.TheVariants.{Refused, Source, Memory}
-use Rattle.e57_stream.specs.AskingLaws.{asks_met_none, asks_met_map}
+use Rattle.e57_stream.proofs.AskingLaws.{asks_met_none}
 use Rattle.e57_column.specs.Column.{column_item, StandsIn}
 use Rattle.e57_column.specs.Reading.{SameField, OnRecords, AsksRecords}
-use Rattle.e57_column.specs.declared.state.State.{State}
-use Rattle.e57_records.specs.Block.{Block, has_record, Holds}
-use Rattle.e57_records.specs.Filling.{Fills, IsLost, most_of}
+use Rattle.e57_blocks.specs.Block.{Block, has_record, Holds}
+use Rattle.e57_blocks.specs.Filling.{Fills, IsLost, most_of}
 use Rattle.e57_rows.specs.Blocks.{IsReady, HasRecords, HeldNot, KeepsBlock, FillsBlock, IsBlockCause, FillsNoBlock}
-
--- ---- facts of a file
-
-pub all_told : (P : List ℕ → Type 0) (held : Option (List ℕ)) → ((file : List ℕ) → P file) → IfSome held P
-all_told P None each = tt
-all_told P (Some file) each = each file
-
--- what a failed step answers is the only answer
-pub by_error : {T E : Type 0} (P : T → Type 0) (Q : E → Type 0) (failure : E) (result : Result T E) → IsErrAnd result (λ e. e ≡ failure) → Q failure → MatchResult result P Q
-by_error P Q failure (Ok x) is q = absurd is
-by_error P Q failure (Err e) is q = subst Q (sym is) q
-
--- ---- the same field
-
-pub same_item : (file : List ℕ) (a b : State) (i : ℕ) → SameField a b → column_item file b i ≡ column_item file a i
-same_item file a b i same = rw (same.stream, same.items) refl
-
-asks_wider : (old new : SourceView) (c : State) (i n m : ℕ) → n ≤ m → AsksRecords old c i n new → AsksRecords old c i m new
-asks_wider old new c i n m few f =
-    asks_met_map (λ file p. StandsIn file c → OnRecords file c i n p) (λ file p. StandsIn file c → OnRecords file c i m p) old new
-    (all_told (λ file. (p : ℕ) → (StandsIn file c → OnRecords file c i n p) → StandsIn file c → OnRecords file c i m p) old.held
-    (λ file p on is. let one = on is in let high = one.before in record { i = one.i; after = one.after; before = omega (arith, high, few); way = one.way })) f
+use Rattle.e57_column.proofs.Joining.{same-item}
+use Rattle.e57_blocks.proofs.Getting.{asks_wider}
 
 -- ---- what is kept of a block
 
@@ -75,7 +54,7 @@ no_record old new before after i want found keeps (inr (low, high)) none is =
     told_map (λ file. Holds file after) (λ file. column_item file before.column i ≡ Err found) old.held
     (λ file holds.
     let fault = subst (λ (o : Option Fault). IfSome o (λ f. column_item file after.column (after.first + after.count) ≡ Err f)) is holds.fault in
-    sym (same_item file before.column after.column i keeps.same) ∙ subst (λ (k : ℕ). column_item file after.column k ≡ Err found) place fault) keeps.holds
+    sym (same-item file before.column after.column i keeps.same) ∙ subst (λ (k : ℕ). column_item file after.column k ≡ Err found) place fault) keeps.holds
 
 pub held_after : (old new : SourceView) (before after : Block) (i want : ℕ) (result : Result ℕ OpenFault) → KeepsBlock old before i want new after → IsReady i after
     → MatchResult result (λ n. (0 < n) × HasRecords i n after) (λ fault. HeldNot after i fault)

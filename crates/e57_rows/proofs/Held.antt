@@ -5,9 +5,9 @@ use Rattle.std.proofs.Common.{refl, sym, ap, ◌∙◌, arith, add-zero, append_
 use Rattle.std.proofs.lemmas.List.{append-nil, map-append, take_more}
 use Rattle.std.proofs.lemmas.Bool.Decides.{nat_tests}
 use Rattle.e57_layout.specs.Values.{ItemKind}
-use Rattle.e57_records.specs.declared.block.Item.{Item}
-use Rattle.e57_records.specs.declared.block.Item.TheVariants as an_item
-use Rattle.e57_records.specs.Block.{Block, has_record, item_value, IsOfKind}
+use Rattle.e57_blocks.specs.declared.block.Item.{Item}
+use Rattle.e57_blocks.specs.declared.block.Item.TheVariants as an_item
+use Rattle.e57_blocks.specs.Block.{Block, has_record, item_value, IsOfKind}
 use Rattle.e57_rows.specs.Cells.{cell, item_text}
 use Rattle.e57_rows.specs.Blocks.{HasRecords, held_row, held_rows}
 

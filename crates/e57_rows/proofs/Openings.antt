@@ -6,13 +6,13 @@ use Rattle.std.proofs.lemmas.List.{get_or_default, map-append, take_all}
 use Rattle.e57_layout.specs.declared.field.Field.{Field}
 use Rattle.e57_layout.specs.declared.field.Fixed.{Fixed}
 use Rattle.e57_layout.specs.declared.section.Section.{Section}
-use Rattle.e57_sections.specs.Cloud.{Leaf}
-use Rattle.e57_records.specs.Block.{Block, Holds}
-use Rattle.e57_records.specs.Filling.{OpensBlock}
+use Rattle.e57_cloud.specs.Cloud.{Leaf}
+use Rattle.e57_blocks.specs.Block.{Block, Holds}
+use Rattle.e57_blocks.specs.Filling.{OpensBlock}
 use Rattle.e57_rows.specs.Rows.{asked_of, field_at, leaf_of, no_field}
 use Rattle.e57_rows.specs.Blocks.{field_of, IsOf, IsReady, OpensBlocks}
 use Rattle.e57_rows.proofs.Held.{all_at, map_more}
-use Rattle.e57_rows.proofs.Sides.{all_append}
+use Rattle.e57_base.proofs.Lists.{all_append}
 
 pub opens_none : (s : Section) (fixed : Option Fixed) (fields : List Field) (asked : List ℕ) → OpensBlocks s fixed (asked_of fields (take 0 asked)) []
 opens_none s fixed fields asked = record { are = record { fields = refl; all = tt }; ready = λ i. tt; holds = λ file. tt }

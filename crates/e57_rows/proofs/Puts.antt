@@ -5,23 +5,23 @@ use Rattle.std.specs.List.{AllByRecursion}
 use Rattle.std.proofs.Common.{refl, sym, subst, ap, ◌∙◌, arith, append_assoc, length-append, inr}
 use Rattle.std.proofs.Math.Seq.{take-append-add}
 use Rattle.std.proofs.lemmas.List.{append-nil, take-append-le, take_all}
-use Rattle.e57_base.specs.Count.{Rose, rose_before}
+use Rattle.e57_base.specs.Count.{Rose}
+use Rattle.e57_base.proofs.CountLaws.{rose_before}
 use Rattle.e57_base.specs.Source.{SourceView}
 use Rattle.e57_base.specs.Sink.{SinkView, Grows, GrowsByFront}
-use Rattle.e57_base.specs.Told.{told_map, told_both, told_here}
+use Rattle.e57_base.proofs.Told.{told_map, told_both, told_here, told_all}
 use Rattle.e57_base.specs.Fault.{open_as_run}
 use Rattle.e57_base.specs.declared.fault.Fault.{Fault}
 use Rattle.e57_base.specs.declared.fault.OpenFault.{OpenFault}
 use Rattle.e57_base.specs.declared.fault.OpenFault.TheVariants as lost
 use Rattle.e57_base.specs.declared.fault.RunFault.TheVariants.{Out, Memory}
-use Rattle.e57_sections.specs.Cloud.{Leaf}
+use Rattle.e57_cloud.specs.Cloud.{Leaf}
 use Rattle.e57_stream.specs.Asking.{AsksMet}
-use Rattle.e57_stream.specs.AskingLaws.{asks_met_none, asks_met_on, asks_met_map}
-use Rattle.e57_records.specs.Block.{Block, Holds}
+use Rattle.e57_stream.proofs.AskingLaws.{asks_met_none, asks_met_on, asks_met_map}
+use Rattle.e57_blocks.specs.Block.{Block, Holds}
 use Rattle.e57_rows.specs.Rows.{section_row, rows_text, rows_fault}
 use Rattle.e57_rows.specs.Putting.{Slice, slice_text, slice_fault, OnSlice, PutsFront, PutsRows, IsRowsCause, FailsRows}
 use Rattle.e57_rows.specs.Blocks.{AreBlocks, IsReady, HasRecords, AreOfFile, blocks_slice, held_rows, FillsBlocks, IsBlocksCause, FillsNoBlocks}
-use Rattle.e57_rows.proofs.Filling.{all_told}
 use Rattle.e57_rows.proofs.Held.{all_map}
 use Rattle.e57_rows.proofs.Records.{AreRows, rows_none, rows_both, rows_on, rows_sound, rows_stop}
 
@@ -31,7 +31,7 @@ grows_none : (written : Option (List ℕ)) → Grows written [] written
 grows_none None = refl
 grows_none (Some bytes) = ap Some (sym (append-nil bytes))
 
-grows_on : (a b c : Option (List ℕ)) (first next : List ℕ) → Grows a first b → Grows b next c → Grows a (first ++ next) c
+pub grows_on : (a b c : Option (List ℕ)) (first next : List ℕ) → Grows a first b → Grows b next c → Grows a (first ++ next) c
 grows_on None b c first next f g = g ∙ ap (option_map (λ bytes. bytes ++ next)) f
 grows_on (Some bytes) b c first next f g = g ∙ ap (option_map (λ bytes. bytes ++ next)) f ∙ ap Some (append_assoc bytes first next)
 
@@ -39,7 +39,7 @@ grows_front : (a b : Option (List ℕ)) (text : List ℕ) → Grows a text b →
 grows_front a b text grows = (length text, omega arith, subst (λ (t : List ℕ). Grows a t b) (sym (take_all (length text) text (omega arith))) grows)
 
 -- some bytes, and a front of others
-front_on : (a b c : Option (List ℕ)) (first next : List ℕ) → Grows a first b → GrowsByFront b next c → GrowsByFront a (first ++ next) c
+pub front_on : (a b c : Option (List ℕ)) (first next : List ℕ) → Grows a first b → GrowsByFront b next c → GrowsByFront a (first ++ next) c
 front_on a b c first next grows (k, within, front) = (
   length first + k,
   rw length-append (omega (arith, within)),
@@ -63,7 +63,7 @@ rows_of a file i n text = AreRows (section_row file a.section a.fixed a.asked) i
 part_asks : (a : Slice) (i n : ℕ) (old new : SourceView) → a.from ≤ i → i + n ≤ a.from + a.count → AsksMet (OnSlice (part a i n)) old new → AsksMet (OnSlice a) old new
 part_asks a i n old new low high asks =
     asks_met_map (OnSlice (part a i n)) (OnSlice a) old new
-    (all_told (λ file. (p : ℕ) → OnSlice (part a i n) file p → OnSlice a file p) old.held
+    (told_all (λ file. (p : ℕ) → OnSlice (part a i n) file p → OnSlice a file p) old.held
     (λ file p on.
     let after = on.after in
     let before = on.before in
@@ -83,7 +83,7 @@ pub puts_none : (a : Slice) (source : SourceView) (out : SinkView) → PutsTo a 
 puts_none a source out = record {
   met = asks_met_none (OnSlice a) source;
   text = [];
-  rows = all_told (λ file. rows_of a file a.from 0 []) source.held (λ file. rows_none (section_row file a.section a.fixed a.asked) a.from);
+  rows = told_all (λ file. rows_of a file a.from 0 []) source.held (λ file. rows_none (section_row file a.section a.fixed a.asked) a.from);
   wrote = grows_none out.written;
   counts = omega arith;
 }

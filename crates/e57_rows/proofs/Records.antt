@@ -7,10 +7,10 @@ use Rattle.e57_base.specs.declared.fault.Fault.{Fault}
 use Rattle.e57_layout.specs.Values.{Value}
 use Rattle.e57_layout.specs.declared.field.Fixed.{Fixed}
 use Rattle.e57_layout.specs.declared.section.Section.{Section}
-use Rattle.e57_sections.specs.Cloud.{Leaf}
-use Rattle.e57_sections.specs.PathItem.{and_then, item_of}
+use Rattle.e57_cloud.specs.Cloud.{Leaf}
+use Rattle.e57_cloud.specs.PathItem.{and_then, item_of}
 use Rattle.e57_column.specs.Column.{leaf_of, column_item}
-use Rattle.e57_records.specs.Block.{Block, item_of as held_item, Holds}
+use Rattle.e57_blocks.specs.Block.{Block, held_item, Holds}
 use Rattle.e57_rows.specs.Cells.{cell, csv_row}
 use Rattle.e57_rows.specs.Rows.{cells_of, section_row, rows_text, rows_fault, text_before, fault_before}
 use Rattle.e57_rows.specs.Blocks.{field_of, IsOf, AreBlocks, HasRecords, cell_at, held_row, held_rows}

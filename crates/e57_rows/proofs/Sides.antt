@@ -3,32 +3,27 @@ use Rattle.std.specs.Prelude.{◌≡◌, ℕ, zero, suc, ◌+◌, ◌<◌, ◌�
 use Rattle.std.specs.List.{AllByRecursion}
 use Rattle.std.proofs.Common.{set, refl, sym, subst, ap, ◌∙◌, arith}
 use Rattle.std.proofs.lemmas.List.{drop_more, drop-set-lt, get_or-map, length-map, map-append, take-append-drop, take_all, take_more_set}
-use Rattle.e57_base.specs.Count.{rose_before}
+use Rattle.e57_base.proofs.CountLaws.{rose_before}
 use Rattle.e57_base.specs.Source.{SourceView}
-use Rattle.e57_base.specs.Told.{told_map, told_both, told_here}
+use Rattle.e57_base.proofs.Told.{told_map, told_both, told_here}
 use Rattle.e57_base.specs.declared.fault.Fault.{Fault}
 use Rattle.e57_base.specs.declared.fault.OpenFault.{OpenFault}
 use Rattle.e57_base.specs.declared.fault.OpenFault.TheVariants.{Refused, Source, Memory}
 use Rattle.e57_layout.specs.declared.field.Fixed.{Fixed}
 use Rattle.e57_layout.specs.declared.section.Section.{Section}
-use Rattle.e57_sections.specs.Cloud.{Leaf}
-use Rattle.e57_sections.specs.Met.{OnItem}
+use Rattle.e57_cloud.specs.Cloud.{Leaf}
+use Rattle.e57_cloud.specs.Met.{OnItem}
 use Rattle.e57_stream.specs.Asking.{AsksMet}
-use Rattle.e57_stream.specs.AskingLaws.{asks_met_none, asks_met_on, asks_met_map}
+use Rattle.e57_stream.proofs.AskingLaws.{asks_met_none, asks_met_on, asks_met_map}
 use Rattle.e57_column.specs.Column.{leaf_of, column_item, StandsIn}
 use Rattle.e57_column.specs.Reading.{SameField, OnRecords, AsksRecords}
-use Rattle.e57_records.specs.Block.{Block, Holds}
+use Rattle.e57_blocks.specs.Block.{Block, Holds}
 use Rattle.e57_rows.specs.Rows.{section_row}
 use Rattle.e57_rows.specs.Putting.{Slice, OnSlice}
 use Rattle.e57_rows.specs.Blocks.{field_of, IsOf, AreBlocks, IsReady, HasRecords, AreOfFile, FillsBlock, IsBlockCause, FillsNoBlock, blocks_slice, FillsBlocks, IsBlocksCause, FillsNoBlocks}
 use Rattle.e57_rows.proofs.Held.{all_at, all_map}
 use Rattle.e57_rows.proofs.Records.{row_stop}
-
--- ---- lists
-
-pub all_append : {X : Type 0} (P : X → Type 0) (xs ys : List X) → AllByRecursion P xs → AllByRecursion P ys → AllByRecursion P (xs ++ ys)
-all_append P [] ys f g = g
-all_append P (x ∷ xs) ys f g = (f.0, all_append P xs ys f.1 g)
+use Rattle.e57_base.proofs.Lists.{all_append}
 
 all_front : {X : Type 0} (P : X → Type 0) (k : ℕ) (xs : List X) → AllByRecursion P xs → AllByRecursion P (take k xs)
 all_front P zero xs all = tt

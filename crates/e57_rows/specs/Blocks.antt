@@ -7,13 +7,13 @@ use Rattle.e57_base.specs.declared.fault.OpenFault.{OpenFault}
 use Rattle.e57_base.specs.declared.fault.OpenFault.TheVariants.{Refused, Source, Memory}
 use Rattle.e57_layout.specs.declared.field.Fixed.{Fixed}
 use Rattle.e57_layout.specs.declared.section.Section.{Section}
-use Rattle.e57_sections.specs.Cloud.{Leaf}
+use Rattle.e57_cloud.specs.Cloud.{Leaf}
 use Rattle.e57_stream.specs.Asking.{AsksMet}
 use Rattle.e57_column.specs.Finding.{is_column_kind}
 use Rattle.e57_column.specs.Column.{kind_of, leaf_of, column_item}
 use Rattle.e57_column.specs.Reading.{SameField, AsksRecords}
-use Rattle.e57_records.specs.Block.{Block, item_of, has_record, Holds}
-use Rattle.e57_records.specs.Filling.{IsNew}
+use Rattle.e57_blocks.specs.Block.{Block, held_item, has_record, Holds}
+use Rattle.e57_blocks.specs.Filling.{IsNew}
 use Rattle.e57_rows.specs.Cells.{cell, csv_row}
 use Rattle.e57_rows.specs.Rows.{section_row}
 use Rattle.e57_rows.specs.Putting.{Slice, OnSlice}
@@ -56,7 +56,7 @@ pub record OpensBlocks (s : Section) (fixed : Option Fixed) (asked : List (ℕ �
 
 -- the cell of record i
 abbrev pub cell_at : ℕ → Block → List ℕ
-cell_at i b = cell (kind_of b.column.items) (item_of b (i - b.first))
+cell_at i b = cell (kind_of b.column.items) (held_item b (i - b.first))
 
 -- the row of record i
 abbrev pub held_row : List Block → ℕ → List ℕ

@@ -2,8 +2,8 @@
 use Rattle.std.specs.Prelude.{ℕ, zero, suc, ◌+◌, ◌/◌, ◌%◌, ◌^◌, nat_lt, if◌then◌else◌, List, [], ◌∷◌}
 use Rattle.std.specs.Fmt.{signed_decimal}
 use Rattle.csv.specs.Writing.{default_writer, row_text}
-use Rattle.e57_records.specs.declared.block.Item.{Item}
-use Rattle.e57_records.specs.declared.block.Item.TheVariants as an_item
+use Rattle.e57_blocks.specs.declared.block.Item.{Item}
+use Rattle.e57_blocks.specs.declared.block.Item.TheVariants as an_item
 use Rattle.e57_layout.specs.Values.{ItemKind, integers, words, strings, Value, whole, word, octets}
 
 -- the hexadecimal digit of a number below 16, in lower case

@@ -9,8 +9,8 @@ use Rattle.e57_base.specs.declared.fault.RunFault.TheVariants.{Refused, Source, 
 use Rattle.e57_layout.specs.declared.field.Field.{Field}
 use Rattle.e57_layout.specs.declared.field.Fixed.{Fixed}
 use Rattle.e57_layout.specs.declared.section.Section.{Section}
-use Rattle.e57_sections.specs.Cloud.{Leaf}
-use Rattle.e57_sections.specs.Met.{OnItem}
+use Rattle.e57_cloud.specs.Cloud.{Leaf}
+use Rattle.e57_cloud.specs.Met.{OnItem}
 use Rattle.e57_stream.specs.Asking.{AsksMet}
 use Rattle.e57_column.specs.Finding.{is_column_kind}
 use Rattle.e57_rows.specs.Rows.{asked_of, section_row, rows_text, rows_fault}

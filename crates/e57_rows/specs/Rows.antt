@@ -6,8 +6,8 @@ use Rattle.e57_layout.specs.declared.field.FieldKind.TheVariants.{Text}
 use Rattle.e57_layout.specs.declared.field.Fixed.{Fixed}
 use Rattle.e57_layout.specs.declared.section.Section.{Section}
 use Rattle.e57_layout.specs.Values.{item_kind, Value}
-use Rattle.e57_sections.specs.Cloud.{Leaf}
-use Rattle.e57_sections.specs.PathItem.{and_then, item_of}
+use Rattle.e57_cloud.specs.Cloud.{Leaf}
+use Rattle.e57_cloud.specs.PathItem.{and_then, item_of}
 use Rattle.e57_rows.specs.Cells.{cell, csv_row}
 
 -- ---- the asked fields

@@ -7,14 +7,14 @@ ghost use Rattle.e57_page.specs.Place.{payload_length};
 ghost use Rattle.e57_layout.specs.Values.{IsValidField};
 ghost use Rattle.e57_section.specs.Opening.{LiesIn};
 ghost use Rattle.e57_ahead.specs.Counting.{IsWidth};
-ghost use Rattle.e57_records.specs.Block.{Holds, has_record};
+ghost use Rattle.e57_blocks.specs.Block.{Holds, has_record};
 ghost use Rattle.e57_rows.specs.Rows.{asked_of};
 ghost use Rattle.e57_rows.specs.Blocks.{AreOfFile, FillsBlock, FillsBlocks, FillsNoBlock, FillsNoBlocks, HasRecords, HeldNot, IsOf, IsReady, OpensBlocks, blocks_slice};
 
 use e57_base::{OpenFault, Source};
+use e57_blocks::FieldBlock;
 use e57_layout::{Field, FieldKind, Fixed, Section};
 use e57_page::Pages;
-use e57_records::FieldBlock;
 use std::alloc::{AllocError, Global};
 
 /// How many bits the items of a block of all fields have, about: so the packets of a block are among the kept pages.

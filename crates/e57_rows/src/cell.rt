@@ -6,7 +6,7 @@ ghost use Rattle.e57_rows.specs.Writing.{AtRow, InRow};
 
 use crate::hexadecimal::{digits32, digits64};
 use csv::Writer;
-use e57_records::Item;
+use e57_blocks::Item;
 use itoa::Buffer;
 use std::alloc::AllocError;
 use std::io::Write;

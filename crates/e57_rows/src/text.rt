@@ -7,7 +7,7 @@ ghost use Rattle.e57_rows.specs.Writing.{AtRow, InRow};
 
 use crate::cell::{end_row, write_item};
 use csv::Writer;
-use e57_records::FieldBlock;
+use e57_blocks::FieldBlock;
 use itoa::Buffer;
 use std::alloc::AllocError;
 use std::io::Write;

@@ -3,44 +3,44 @@ use Rattle.std.specs.Prelude.{◌≡◌, ℕ, ◌+◌, ◌*◌, ◌%◌, ◌≤�
 use Rattle.std.proofs.Common.{refl, sym, subst, ap, ◌∙◌, arith}
 use Rattle.std.proofs.lemmas.Bool.{eqb-true, eq-eqb, or_parts, not-false}
 use Rattle.std.proofs.lemmas.List.{length-take-le, length-drop}
-use Rattle.e57_base.specs.Count.{rose_before}
+use Rattle.e57_base.proofs.CountLaws.{rose_before}
 use Rattle.e57_base.specs.Fault.{fault}
 use Rattle.e57_base.specs.Source.{SourceView}
-use Rattle.e57_base.specs.Told.{told_map, told_both, told_here}
+use Rattle.e57_base.proofs.Told.{told_map, told_both, told_here}
 use Rattle.e57_base.specs.declared.fault.Fault.{Fault}
 use Rattle.e57_base.specs.declared.fault.ReadFault.{ReadFault}
 use Rattle.e57_base.specs.declared.fault.ReadFault.TheVariants.{Refused, Source}
 use Rattle.e57_base.specs.declared.kind.Kind.TheVariants.{PacketType, PacketLength}
 use Rattle.e57_page.specs.File.{logical, logical_size, span_fault}
-use Rattle.e57_page.specs.FileLaws.{length-logical}
+use Rattle.e57_page.proofs.FileLaws.{length-logical}
 use Rattle.e57_layout.specs.declared.section.Section.{Section}
 use Rattle.e57_layout.specs.declared.packet.PacketHead.{PacketHead}
 use Rattle.e57_layout.specs.Packets.{sort_at, length_at, lengths_at, packet_head_at, restart_at, streams_at, data_size}
-use Rattle.e57_layout.specs.Laws.Layouts.{restart_at-flags}
+use Rattle.e57_layout.proofs.Laws.Layouts.{restart_at-flags}
 use Rattle.e57_packet.specs.Reading.{is_misshapen, stream_ends}
-use Rattle.e57_sections.specs.Section.{when}
-use Rattle.e57_sections.specs.Walk.{packet_head_fault, packet_fault}
-use Rattle.e57_sections.specs.Met.{needed_at}
-use Rattle.e57_sections.specs.Laws.Spans.{or-none}
-use Rattle.e57_sections.specs.Laws.Walks.{length_at-some}
+use Rattle.e57_cloud.specs.Section.{when}
+use Rattle.e57_cloud.specs.Walk.{packet_head_fault, packet_fault}
+use Rattle.e57_cloud.specs.Met.{needed_at}
+use Rattle.e57_cloud.proofs.Laws.Walks.{length_at-some}
 use Rattle.e57_section.specs.declared.load.Loaded.TheVariants.{Stream, Index, Empty}
 use Rattle.e57_section.specs.Steps.{ReadsHead, LosesHead, ReadsData, LosesData, data_fault, IsHeadCause, IsDataCause}
 use Rattle.e57_section.specs.Streams.{first_stream, pieces, EndsWithin, IsBuffer}
 use Rattle.e57_section.specs.Loading.{LoadsPacket, LosesPacket, IsPacketCause, IsLoaded}
 use Rattle.e57_section.proofs.Packets.{fault_head, fault_other, fault_data, needed_data, sound_shape, ends_within, pieces_are, streams_take, streams_piece, count_streams, count_lengths, size_streams}
 use Rattle.e57_section.proofs.Loads.{asks_head, asks_all, keeps_all, only_all}
+use Rattle.e57_base.proofs.Options.{option_or_parts}
 
 -- ---- how many bytes are needed
 
-when_false : (b : Bool) (f : Fault) → when b f ≡ None → b ≡ false
+pub when_false : (b : Bool) (f : Fault) → when b f ≡ None → b ≡ false
 when_false true f e = absurd cc
 when_false false f e = refl
 
 length_whole : (file : List ℕ) (s : Section) (q : ℕ) → packet_head_fault file s q ≡ None → 4 ≤ length_at (logical file) q
 unfolding packet_head_fault
 length_whole file s q none =
-    let first = or-none (span_fault file q 4) _ none in
-    let second = or-none (when (nat_lt 2 (sort_at (logical file) q)) (fault PacketType s.node q)) _ first.1 in
+    let first = option_or_parts (span_fault file q 4) _ none in
+    let second = option_or_parts (when (nat_lt 2 (sort_at (logical file) q)) (fault PacketType s.node q)) _ first.1 in
     let tests = or_parts (not (length_at (logical file) q % 4 == 0)) (nat_lt s.end (q + length_at (logical file) q)) (when_false (not (length_at (logical file) q % 4 == 0) || nat_lt s.end (q + length_at (logical file) q)) (fault PacketLength s.node q) second.1) in
     let whole = eqb-true (length_at (logical file) q % 4) 0 (not-false (length_at (logical file) q % 4 == 0) tests.0) in
     let some = length_at-some (logical file) q in

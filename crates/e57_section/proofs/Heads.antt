@@ -3,11 +3,11 @@ use Rattle.std.specs.Prelude.{◌≡◌, ℕ, ◌+◌, ◌*◌, ◌%◌, ◌^◌
 use Rattle.std.specs.Option.{option_or}
 use Rattle.std.proofs.Common.{refl, subst, ap, ◌∙◌, arith, lit≤}
 use Rattle.std.proofs.lemmas.Bool.{lt-ltb, le-ltb, ltb-false, eqb-true}
-use Rattle.e57_bits.specs.BitLaws.{number-lt}
+use Rattle.e57_bits.proofs.BitLaws.{number-lt}
 use Rattle.e57_bits.specs.Bits.{number}
 use Rattle.e57_base.specs.Fault.{fault}
 use Rattle.e57_base.specs.Source.{SourceView}
-use Rattle.e57_base.specs.Told.{told_map, told_both}
+use Rattle.e57_base.proofs.Told.{told_map, told_both}
 use Rattle.e57_base.specs.declared.fault.Fault.{Fault}
 use Rattle.e57_base.specs.declared.fault.ReadFault.{ReadFault}
 use Rattle.e57_base.specs.declared.fault.ReadFault.TheVariants.{Refused, Source}
@@ -17,8 +17,8 @@ use Rattle.e57_page.specs.File.{logical, span_fault}
 use Rattle.e57_layout.specs.declared.section.Section.{Section}
 use Rattle.e57_layout.specs.Packets.{sort_at, length_at, packet_head_at}
 use Rattle.e57_packet.specs.Reading.{head_kind}
-use Rattle.e57_sections.specs.Section.{when}
-use Rattle.e57_sections.specs.Walk.{packet_head_fault}
+use Rattle.e57_cloud.specs.Section.{when}
+use Rattle.e57_cloud.specs.Walk.{packet_head_fault}
 use Rattle.e57_section.specs.Steps.{is_packet_kind, IsSpanCause, IsHeadCause}
 use Rattle.e57_section.proofs.Moved.{sort-piece, length-piece, packet_head-piece}
 

@@ -1,3 +1,6 @@
+pub mod WalkingLaws
+pub mod AskingLaws
+pub mod StretchLaws
 pub mod Moved
 pub mod Spans
 pub mod Heads
@@ -7,3 +10,4 @@ pub mod Openings
 pub mod Packets
 pub mod Loads
 pub mod Answered
+pub mod Lengths

@@ -8,8 +8,8 @@ use Rattle.e57_base.specs.Source.{SourceView}
 use Rattle.e57_page.specs.Place.{span_end}
 use Rattle.e57_page.specs.Kept.{is_kept}
 use Rattle.e57_page.specs.Pages.{AsksFor}
-use Rattle.e57_page.specs.PagesLaws.{asks_for_on, asks_unkept_from}
-use Rattle.e57_sections.specs.Met.{InSpan}
+use Rattle.e57_page.proofs.PagesLaws.{asks_for_on, asks_unkept_from}
+use Rattle.e57_cloud.specs.Met.{InSpan}
 use Rattle.e57_section.specs.Asking.{AsksSpan, KeepsSpan, KeepsOnly, AsksPacket}
 
 -- four bytes are no more than n

@@ -1,7 +1,7 @@
 -- What is read of a piece of bytes is what is read where the piece stands.
 use Rattle.std.proofs.Common.{◌≡◌, ℕ, zero, suc, ◌+◌, ◌*◌, ◌≤◌, List, take, drop, refl, ap, ◌∙◌, arith, lit≤}
 use Rattle.e57_bits.specs.Bits.{number}
-use Rattle.e57_bits.specs.BitLaws.{number-take, number-drop}
+use Rattle.e57_bits.proofs.BitLaws.{number-take, number-drop}
 use Rattle.e57_layout.specs.Headers.{section_head_at}
 use Rattle.e57_layout.specs.Packets.{sort_at, length_at, packet_head_at, stream_count_at, lengths_at}
 

@@ -5,7 +5,7 @@ use Rattle.std.proofs.Common.{refl, sym, subst, ap, ◌∙◌, arith}
 use Rattle.std.proofs.lemmas.Bool.{ltb-false, or_parts}
 use Rattle.e57_base.specs.Fault.{fault}
 use Rattle.e57_base.specs.Source.{SourceView, HoldsSize}
-use Rattle.e57_base.specs.Told.{told_map, told_both, length_told}
+use Rattle.e57_base.proofs.Told.{told_map, told_both, length_told}
 use Rattle.e57_base.specs.declared.fault.Fault.{Fault}
 use Rattle.e57_base.specs.declared.fault.ReadFault.{ReadFault}
 use Rattle.e57_base.specs.declared.fault.ReadFault.TheVariants.{Refused, Source}
@@ -17,18 +17,13 @@ use Rattle.e57_page.specs.Pages.{AsksFor}
 use Rattle.e57_layout.specs.Headers.{section_head_at}
 use Rattle.e57_layout.specs.declared.section.Section.{Section}
 use Rattle.e57_layout.specs.declared.section.SectionHeader.{SectionHeader}
-use Rattle.e57_sections.specs.Section.{when, data_place_fault, section_header_fault, section_fault_from, section_fault, section_at}
-use Rattle.e57_sections.specs.Laws.Spans.{or-none}
+use Rattle.e57_cloud.specs.Section.{when, data_place_fault, section_header_fault, section_fault_from, section_fault, section_at}
 use Rattle.e57_section.specs.Asking.{AsksSpan, KeepsOnly}
 use Rattle.e57_section.specs.Opening.{header_within, header_place, AsksHeader, KeepsHeader, is_section_kind, IsSectionCause}
 use Rattle.e57_section.specs.Steps.{IsSpanCause}
 use Rattle.e57_section.proofs.Moved.{section_head-piece}
-
--- ---- where the header is
-
-cond_none : (b : Bool) (q : ℕ) → ◌≡◌ {A = Option ℕ} (if b then None else Some q) None → b ≡ true
-cond_none true q e = refl
-cond_none false q e = absurd cc
+use Rattle.e57_base.proofs.Options.{cond_none, option_or_parts}
+use Rattle.e57_section.proofs.Answered.{when_false}
 
 cond_some : (b : Bool) (q start : ℕ) → ◌≡◌ {A = Option ℕ} (if b then None else Some q) (Some start) → (b ≡ false) × (q ≡ start)
 cond_some true q start e = absurd cc
@@ -116,10 +111,6 @@ header_kind node offset size start header found e =
     (when_kind (not (header.id == 1)) (fault SectionId node header.id) found refl)
     (data_kind node start header (place header.data_place) found)) e
 
-when_false : (b : Bool) (f : Fault) → when b f ≡ None → b ≡ false
-when_false true f e = absurd cc
-when_false false f e = refl
-
 data_lies : (node start data_place : ℕ) (header : SectionHeader) (p : Option ℕ) → p ≡ Some data_place → data_place_fault node start header p ≡ None → (start + 32 ≤ data_place) × (data_place ≤ start + header.length)
 data_lies node start data_place header None e sound = absurd cc
 data_lies node start data_place header (Some q) e sound =
@@ -138,8 +129,8 @@ pub record HeaderLies (size start data_place : ℕ) (header : SectionHeader) : T
 pub header_lies : (node offset size start data_place : ℕ) (header : SectionHeader) → section_header_fault node offset size start header ≡ None → place header.data_place ≡ Some data_place → HeaderLies size start data_place header
 unfolding section_header_fault
 header_lies node offset size start data_place header sound e =
-    let first = or-none (when (nat_lt header.length 32 || nat_lt size (start + header.length)) (fault SectionPlace node offset)) _ sound in
-    let second = or-none (when (not (header.id == 1)) (fault SectionId node header.id)) _ first.1 in
+    let first = option_or_parts (when (nat_lt header.length 32 || nat_lt size (start + header.length)) (fault SectionPlace node offset)) _ sound in
+    let second = option_or_parts (when (not (header.id == 1)) (fault SectionId node header.id)) _ first.1 in
     let tests = or_parts (nat_lt header.length 32) (nat_lt size (start + header.length)) (when_false (nat_lt header.length 32 || nat_lt size (start + header.length)) (fault SectionPlace node offset) first.0) in
     let lies = data_lies node start data_place header (place header.data_place) e second.1 in
     record { after = lies.0; inside = lies.1; end = ltb-false size (start + header.length) tests.1 }

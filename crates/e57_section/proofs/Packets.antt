@@ -8,10 +8,10 @@ use Rattle.e57_base.specs.declared.fault.Fault.{Fault}
 use Rattle.e57_page.specs.File.{logical}
 use Rattle.e57_layout.specs.declared.section.Section.{Section}
 use Rattle.e57_layout.specs.Packets.{sort_at, length_at, stream_count_at, lengths_at, streams_at, streams_of, total, data_size}
-use Rattle.e57_layout.specs.Laws.Layouts.{total-cons, data_size_is}
+use Rattle.e57_layout.proofs.Laws.Layouts.{total-cons, data_size_is}
 use Rattle.e57_packet.specs.Reading.{is_misshapen, stream_ends}
-use Rattle.e57_sections.specs.Walk.{packet_head_fault, is_misshapen_data, packet_fault}
-use Rattle.e57_sections.specs.Met.{needed_at}
+use Rattle.e57_cloud.specs.Walk.{packet_head_fault, is_misshapen_data, packet_fault}
+use Rattle.e57_cloud.specs.Met.{needed_at}
 use Rattle.e57_section.specs.Steps.{data_fault}
 use Rattle.e57_section.specs.Streams.{pieces, EndsWithin}
 use Rattle.e57_section.proofs.Moved.{count-piece, lengths-piece}

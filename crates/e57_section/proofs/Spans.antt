@@ -10,7 +10,7 @@ use Rattle.e57_page.specs.declared.pages.Cut.{Cut}
 use Rattle.e57_page.specs.Place.{span_end}
 use Rattle.e57_page.specs.Kept.{is_kept, KeepsTo}
 use Rattle.e57_page.specs.Pages.{IsCutAt, IsStopped}
-use Rattle.e57_page.specs.PagesLaws.{cut_below, cut_fault, cut_source}
+use Rattle.e57_page.proofs.PagesLaws.{cut_below, cut_fault, cut_source}
 use Rattle.e57_section.specs.Asking.{KeepsSpan, KeepsOnly}
 use Rattle.e57_section.specs.Steps.{IsSpanCause}
 

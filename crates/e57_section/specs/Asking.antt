@@ -4,7 +4,7 @@ use Rattle.e57_base.specs.Source.{SourceView}
 use Rattle.e57_page.specs.Place.{span_end, RisesWithin}
 use Rattle.e57_page.specs.Kept.{is_kept, AreUnkept, KeepsTo}
 use Rattle.e57_page.specs.Pages.{AsksFor, AsksUnkept}
-use Rattle.e57_sections.specs.Met.{InSpan}
+use Rattle.e57_cloud.specs.Met.{InSpan}
 
 -- Of the pages of the n logical bytes from place q on those that weren't kept were asked for, or the first of these, in
 -- ascending order, each once, and no other.

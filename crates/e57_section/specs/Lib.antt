@@ -4,6 +4,3 @@ pub mod Streams
 pub mod Steps
 pub mod Loading
 pub mod Walking
-pub mod WalkingLaws
-pub mod AskingLaws
-pub mod StretchLaws

@@ -7,8 +7,8 @@ use Rattle.e57_base.specs.declared.fault.ReadFault.TheVariants.{Refused, Source}
 use Rattle.e57_page.specs.File.{logical}
 use Rattle.e57_layout.specs.declared.section.Section.{Section}
 use Rattle.e57_layout.specs.Packets.{sort_at, restart_at, length_at, streams_of, data_size}
-use Rattle.e57_sections.specs.Walk.{Packet, packet_fault}
-use Rattle.e57_sections.specs.Met.{needed_at}
+use Rattle.e57_cloud.specs.Walk.{Packet, packet_fault}
+use Rattle.e57_cloud.specs.Met.{needed_at}
 use Rattle.e57_section.specs.declared.load.Loaded.{Loaded}
 use Rattle.e57_section.specs.declared.load.Loaded.TheVariants.{Stream, Index, Empty}
 use Rattle.e57_section.specs.Asking.{AsksPacket, KeepsSpan, KeepsOnly}

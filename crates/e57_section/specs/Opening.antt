@@ -9,7 +9,7 @@ use Rattle.e57_base.specs.declared.kind.Kind.TheVariants.{Page, SectionPlace, Se
 use Rattle.e57_page.specs.Place.{place}
 use Rattle.e57_page.specs.Pages.{AsksFor}
 use Rattle.e57_layout.specs.declared.section.Section.{Section}
-use Rattle.e57_sections.specs.Section.{section_fault, section_at}
+use Rattle.e57_cloud.specs.Section.{section_fault, section_at}
 use Rattle.e57_section.specs.Asking.{AsksSpan, KeepsSpan, KeepsOnly}
 
 -- the most records of a cloud, and the most fields of a record

@@ -9,14 +9,13 @@ use Rattle.e57_base.specs.declared.fault.ReadFault.{ReadFault}
 use Rattle.e57_base.specs.declared.fault.ReadFault.TheVariants.{Refused, Source}
 use Rattle.e57_base.specs.declared.kind.Kind.{Kind}
 use Rattle.e57_base.specs.declared.kind.Kind.TheVariants.{Page, PacketType, PacketLength, DataShape}
-use Rattle.e57_page.specs.File.{logical}
+use Rattle.e57_page.specs.File.{logical, span_fault}
 use Rattle.e57_layout.specs.declared.section.Section.{Section}
 use Rattle.e57_layout.specs.declared.packet.PacketHead.{PacketHead}
 use Rattle.e57_layout.specs.Packets.{packet_head_at, lengths_at}
 use Rattle.e57_packet.specs.Reading.{is_misshapen, stream_ends}
-use Rattle.e57_page.specs.File.{span_fault}
-use Rattle.e57_sections.specs.Section.{when}
-use Rattle.e57_sections.specs.Walk.{packet_head_fault}
+use Rattle.e57_cloud.specs.Section.{when}
+use Rattle.e57_cloud.specs.Walk.{packet_head_fault}
 use Rattle.e57_section.specs.Asking.{AsksSpan, KeepsSpan, KeepsOnly}
 use Rattle.e57_section.specs.Streams.{first_stream}
 

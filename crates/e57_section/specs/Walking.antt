@@ -4,8 +4,8 @@ use Rattle.std.specs.Prelude.{◌≡◌, ℕ, zero, suc, ◌+◌, ◌-◌, ◌�
 use Rattle.e57_base.specs.declared.fault.Fault.{Fault}
 use Rattle.e57_page.specs.File.{logical}
 use Rattle.e57_layout.specs.declared.section.Section.{Section}
-use Rattle.e57_sections.specs.Walk.{Packet, packet_at, packet_fault}
-use Rattle.e57_sections.specs.PathItem.{unless}
+use Rattle.e57_cloud.specs.Walk.{Packet, packet_at, packet_fault}
+use Rattle.e57_cloud.specs.PathItem.{unless}
 
 -- the packet at place q, or its first fault
 abbrev pub judged_at : List ℕ → Section → ℕ → Result Packet Fault

@@ -3,7 +3,7 @@
 ghost use Rattle.std.specs.Prelude.{◌≡◌, ◌+◌, ◌*◌, ◌/◌, ◌<◌, ◌≤◌, ◌^◌, Some, None, MatchResult};
 ghost use Rattle.e57_base.specs.Source.{page_length};
 ghost use Rattle.e57_page.specs.Place.{payload_length, place as the_place};
-ghost use Rattle.e57_sections.specs.Section.{section_header_fault};
+ghost use Rattle.e57_cloud.specs.Section.{section_header_fault};
 ghost use Rattle.e57_section.specs.Opening.{most_records, most_fields, header_place as the_header_place, OpensSection, OpensNoSection};
 
 use e57_base::{Fault, Kind, ReadFault, Source};
@@ -80,7 +80,7 @@ fn header_place(size: u64, place: u64) -> Option<u64>
 
 /// The place of the data of a section whose header stands at `start` in a file of `size` logical bytes; or the header's
 /// first fault.
-#[tactic(auto, unfolding(e57_sections::specs::Section::section_header_fault))]
+#[tactic(auto, unfolding(e57_cloud::specs::Section::section_header_fault))]
 fn judge_header(
     node: u32,
     place: u64,

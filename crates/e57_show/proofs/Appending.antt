@@ -10,18 +10,18 @@ use Rattle.e57_nodes.specs.Shape.{Shape, shape_of}
 use Rattle.e57_nodes.specs.Typed.{typed_fault}
 use Rattle.e57_nodes.specs.Places.{places_in}
 use Rattle.e57_nodes.specs.Items.{StatedItem, stated_cloud, stated_blob, stated_items}
-use Rattle.e57_nodes.specs.Laws.Sound.{IsSoundItem, sound_items}
-use Rattle.e57_nodes.specs.Laws.Stated.{length-stated_items}
+use Rattle.e57_nodes.proofs.Laws.Sound.{IsSoundItem, sound_items}
+use Rattle.e57_nodes.proofs.Laws.Stated.{length-stated_items}
 use Rattle.e57_nodes.specs.Paths.{path_of}
 use Rattle.e57_tree.specs.declared.items.Cloud.{Cloud}
 use Rattle.e57_tree.specs.declared.items.Blob.{Blob}
 use Rattle.e57_tree.specs.declared.items.Item.{Item}
 use Rattle.e57_tree.specs.declared.items.Item.TheVariants as item
-use Rattle.e57_tree.specs.Held.{clouds_among, blobs_among, items_among, fields_among, clouds_of, blobs_of, items_of, cloud_fields}
-use Rattle.e57_tree.specs.Laws.Flat.{node_count-shape_of}
+use Rattle.e57_tree.specs.Held.{clouds_among, blobs_among, items_among, fields_among, clouds_of, blobs_of, items_of, cloud_fields, no_cloud, no_blob, cloud_in, blob_in, fields_in}
+use Rattle.e57_tree.proofs.Laws.Flat.{node_count-shape_of}
 use Rattle.e57_show.specs.Listing.{cloud_line, blob_line, field_lines, item_lines, list_text}
-use Rattle.e57_show.specs.Items.{no_cloud, no_blob, cloud_in, blob_in, fields_in, IsItem, cloud_text, blob_text, item_text}
-use Rattle.e57_show.proofs.Lists.{stands_at, first_left, none_left}
+use Rattle.e57_show.specs.Items.{IsItem, cloud_text, blob_text, item_text}
+use Rattle.e57_base.proofs.Lists.{stands_at, first_left, none_left}
 
 -- What the lines stand for: the first i items of the tree. These are the rest, with their places, and so many clouds and blobs stand before.
 pub record IsListing (e : Element) (i : ℕ) (text : List ℕ) : Type 0 where

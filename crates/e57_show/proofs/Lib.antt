@@ -1,5 +1,4 @@
 pub mod Showing
-pub mod Lists
 pub mod Appending
 pub mod Pieces
 pub mod Putting

@@ -7,7 +7,7 @@ use Rattle.std.proofs.lemmas.Bool.Decides.{nat_tests}
 use Rattle.std.proofs.lemmas.List.{append-nil, take-take, drop-drop, drop-take}
 use Rattle.e57_base.specs.Source.{SourceView}
 use Rattle.e57_base.specs.Sink.{SinkView, Grows, GrowsByFront}
-use Rattle.e57_base.specs.Told.{told_map}
+use Rattle.e57_base.proofs.Told.{told_map}
 use Rattle.e57_base.specs.Fault.{fault}
 use Rattle.e57_base.specs.declared.fault.ReadFault.{ReadFault}
 use Rattle.e57_base.specs.declared.fault.ReadFault.TheVariants as read
@@ -18,11 +18,11 @@ use Rattle.e57_page.specs.declared.pages.Cut.{Cut}
 use Rattle.e57_page.specs.Place.{span_end}
 use Rattle.e57_page.specs.Kept.{KeepsTo}
 use Rattle.e57_page.specs.File.{logical, pages_fault, span_fault}
-use Rattle.e57_page.specs.FileLaws.{pages_fault-zero}
+use Rattle.e57_page.proofs.FileLaws.{pages_fault-zero}
 use Rattle.e57_page.specs.Pages.{AsksUnkept, IsStopped}
-use Rattle.e57_page.specs.PagesLaws.{asks_unkept_within, asks_unkept_from, asks_within_wider, cut_asks, cut_fault, cut_source}
+use Rattle.e57_page.proofs.PagesLaws.{asks_unkept_within, asks_unkept_from, asks_within_wider, cut_asks, cut_fault, cut_source}
 use Rattle.e57_tree.specs.declared.items.Blob.{Blob}
-use Rattle.e57_file.specs.Blob.{blob_head, blob_start, blob_bytes}
+use Rattle.e57_file.specs.Blob.{blob_head, blob_start, stated_blob_bytes}
 use Rattle.e57_file.specs.BlobReading.{CutsBlob}
 use Rattle.e57_show.specs.BlobPutting.{KeepsLast, AsksBetween, IsPart, PutsCut, FailsPart}
 
@@ -92,7 +92,7 @@ cut_part blob at kept now before after cut old new out out' given some within ke
       record {
         right = told_map (λ file. pages_fault file ((blob_start blob + at) / 1020) (n - (blob_start blob + at) / 1020) ≡ None) (λ file. span_fault file (blob_start blob + at) cut.done ≡ None) old.held
             (λ file right. right_before file (blob_start blob + at) n cut.done is.done is.place right) is.right;
-        read = told_map (λ file. take cut.done after ≡ take cut.done (drop (blob_start blob + at) (logical file))) (λ file. take cut.done after ≡ take cut.done (drop at (blob_bytes file blob))) old.held
+        read = told_map (λ file. take cut.done after ≡ take cut.done (drop (blob_start blob + at) (logical file))) (λ file. take cut.done after ≡ take cut.done (drop at (stated_blob_bytes file blob))) old.held
             (λ file read. read ∙ sym (part_of_bytes (logical file) (blob_start blob) blob.length at cut.done (let short = is.short in omega (arith, within, short)))) is.bytes;
       }
 
@@ -107,7 +107,7 @@ cut_part blob at kept now before after cut old new out out' given some within ke
       always None f = tt
       always (Some file) f = f file
 
-      always_too : (held : Option (List ℕ)) → IfSome held (λ file. [] ≡ take 0 (drop at (blob_bytes file blob)))
+      always_too : (held : Option (List ℕ)) → IfSome held (λ file. [] ≡ take 0 (drop at (stated_blob_bytes file blob)))
       always_too None = tt
       always_too (Some file) = refl
 

@@ -1,14 +1,14 @@
 -- The bytes of a blob, from one piece after another.
-use Rattle.std.proofs.Common.{◌≡◌, ℕ, zero, suc, ◌+◌, ◌-◌, ◌*◌, ◌/◌, ◌<◌, ◌≤◌, Bool, true, false, List, [], ◌++◌, length, take, drop, Option, Some, None, refl, sym, subst, ap, ◌∙◌, arith, add-zero, append_assoc, length-append, length-take, length-drop, Result, Ok, Err}
-use Rattle.std.specs.Prelude.{IfSome, if◌then◌else◌, min, IsErrAnd, MatchResult}
-use Rattle.std.specs.Option.{option_map, option_or}
-use Rattle.std.proofs.Math.Seq.{take-add, take-append-add}
+use Rattle.std.proofs.Common.{◌≡◌, ℕ, zero, suc, ◌+◌, ◌-◌, ◌*◌, ◌/◌, ◌<◌, ◌≤◌, Bool, true, false, List, [], ◌++◌, length, take, drop, Option, Some, None, refl, sym, subst, ap, ◌∙◌, arith, add-zero, length-append, length-take, length-drop}
+use Rattle.std.specs.Prelude.{IfSome, if◌then◌else◌, min}
+use Rattle.std.specs.Option.{option_or}
+use Rattle.std.proofs.Math.Seq.{take-add}
 use Rattle.std.proofs.lemmas.Bool.Decides.{nat_tests}
 use Rattle.std.proofs.lemmas.List.{take-take, length-take-le}
-use Rattle.e57_base.specs.Count.{rose_before}
+use Rattle.e57_base.proofs.CountLaws.{rose_before}
 use Rattle.e57_base.specs.Source.{SourceView}
 use Rattle.e57_base.specs.Sink.{SinkView, Grows, GrowsByFront}
-use Rattle.e57_base.specs.Told.{told_map, told_both, told_here}
+use Rattle.e57_base.proofs.Told.{told_map, told_both, told_here}
 use Rattle.e57_base.specs.Fault.{fault}
 use Rattle.e57_base.specs.declared.fault.Fault.{Fault}
 use Rattle.e57_base.specs.declared.fault.RunFault.{RunFault}
@@ -16,14 +16,15 @@ use Rattle.e57_base.specs.declared.fault.RunFault.TheVariants.{Refused, Source, 
 use Rattle.e57_base.specs.declared.kind.Kind.TheVariants.{Page}
 use Rattle.e57_page.specs.Place.{span_end}
 use Rattle.e57_page.specs.File.{page_fault, pages_fault, span_fault}
-use Rattle.e57_page.specs.FileLaws.{pages_fault-zero, pages_fault-suc, pages_fault-on}
-use Rattle.e57_page.specs.PagesLaws.{asks_within_none, asks_within_on, asks_within_wider}
-use Rattle.e57_sections.specs.Laws.Spans.{or-none}
+use Rattle.e57_page.proofs.FileLaws.{pages_fault-zero, pages_fault-suc, pages_fault-on}
+use Rattle.e57_page.proofs.PagesLaws.{asks_within_none, asks_within_on, asks_within_wider}
 use Rattle.e57_tree.specs.declared.items.Blob.{Blob}
-use Rattle.e57_file.specs.Blob.{blob_head, blob_start, blob_bytes}
+use Rattle.e57_file.specs.Blob.{blob_head, blob_start, stated_blob_bytes}
 use Rattle.e57_show.specs.Blob.{length_before, right_bytes}
 use Rattle.e57_show.specs.BlobPutting.{KeepsLast, AsksBetween, IsPart, PutsPart, PutsFirst, FailsPart, IsPartCause, IsBytesCause, PutsRightFront, PutsBytes, FailsBytes}
 use Rattle.e57_show.proofs.Pieces.{no_span, grows_none}
+use Rattle.e57_rows.proofs.Puts.{grows_on, front_on}
+use Rattle.e57_base.proofs.Options.{option_or_parts}
 
 -- ---- faults of pages in a row
 
@@ -32,7 +33,7 @@ pages-front : (file : List ℕ) (p few more : ℕ) → pages_fault file p (few +
 pages-front file p zero more none = pages_fault-zero file p
 pages-front file p (suc few) more none =
     let sum : suc few + more ≡ suc (few + more) = omega arith in
-    let both = or-none (page_fault file p) (pages_fault file (p + 1) (few + more)) (rw (sum, pages_fault-suc) at none) in
+    let both = option_or_parts (page_fault file p) (pages_fault file (p + 1) (few + more)) (rw (sum, pages_fault-suc) at none) in
     rw (pages_fault-suc file p few, both.0) (pages-front file (p + 1) few more both.1)
 
 -- the first fault of some pages is that of more
@@ -69,7 +70,7 @@ page-beyond : (file : List ℕ) (p right count : ℕ) (found : Fault) → pages_
 page-beyond file p zero count found none some = let from = page-from file p count found some in omega (arith, from)
 page-beyond file p (suc right) zero found none some = let nothing = pages_fault-zero file p in absurd cc
 page-beyond file p (suc right) (suc count) found none some =
-    let both = or-none (page_fault file p) (pages_fault file (p + 1) right) (rw pages_fault-suc at none) in
+    let both = option_or_parts (page_fault file p) (pages_fault file (p + 1) right) (rw pages_fault-suc at none) in
     let rest : pages_fault file (p + 1) count ≡ Some found = rw (pages_fault-suc, both.0) at some in
     let beyond = page-beyond file (p + 1) right count found both.1 rest in
     omega (arith, beyond)
@@ -111,19 +112,6 @@ few-before file s (suc at) n within none = either (span_fault file s n) refl whe
   either None is = within
   either (Some found) is = let here = span-beyond file s (suc at) n found (omega arith) none is in omega (arith, here)
 
--- ---- what grows
-
-pub grows-on : (a b c : Option (List ℕ)) (first next : List ℕ) → Grows a first b → Grows b next c → Grows a (first ++ next) c
-grows-on None b c first next f g = rw f at g
-grows-on (Some bytes) b c first next f g = g ∙ ap (λ (o : Option (List ℕ)). option_map (λ x. x ++ next) o) f ∙ ap (λ (x : List ℕ). Some x) (append_assoc bytes first next)
-
-pub front-on : (a b c : Option (List ℕ)) (first next : List ℕ) → Grows a first b → GrowsByFront b next c → GrowsByFront a (first ++ next) c
-front-on a b c first next f (k, within, g) = (
-  length first + k,
-  rw length-append (omega (arith, within)),
-  subst (λ (t : List ℕ). Grows a t c) (sym (take-append-add first next k)) (grows-on a b c first (take k next) f g),
-)
-
 -- a front of a front
 front-of : (old new : Option (List ℕ)) (m : ℕ) (text : List ℕ) → GrowsByFront old (take m text) new → GrowsByFront old text new
 front-of old new m text (k, within, grows) =
@@ -148,7 +136,7 @@ first_none blob source kept out keeps =
     nothing None = tt
     nothing (Some file) = no_span file (blob_start blob)
 
-    no_text : (held : Option (List ℕ)) → IfSome held (λ file. [] ≡ take 0 (blob_bytes file blob))
+    no_text : (held : Option (List ℕ)) → IfSome held (λ file. [] ≡ take 0 (stated_blob_bytes file blob))
     no_text None = tt
     no_text (Some file) = refl
 
@@ -156,21 +144,21 @@ longer_span : (h a b : ℕ) → a ≤ b → span_end h (16 + a) ≤ span_end h (
 longer_span h a b within = grind (arith, nat_tests)
 
 -- some of the next bytes were read
-both_read : (file : List ℕ) (blob : Blob) (at count : ℕ) (first next : List ℕ) → first ≡ take at (blob_bytes file blob) → next ≡ take count (drop at (blob_bytes file blob)) → first ++ next ≡ take (at + count) (blob_bytes file blob)
-both_read file blob at count first next a b = rw (a, b) (sym (take-add at count (blob_bytes file blob)))
+both_read : (file : List ℕ) (blob : Blob) (at count : ℕ) (first next : List ℕ) → first ≡ take at (stated_blob_bytes file blob) → next ≡ take count (drop at (stated_blob_bytes file blob)) → first ++ next ≡ take (at + count) (stated_blob_bytes file blob)
+both_read file blob at count first next a b = rw (a, b) (sym (take-add at count (stated_blob_bytes file blob)))
 
 -- what is known of a part, of the source before the first bytes
 part_told : (blob : Blob) (at count : ℕ) (old mid : SourceView) (text : List ℕ) → mid.held ≡ old.held → IsPart blob at count mid text → IsPart blob at count old text
 part_told blob at count old mid text same part =
     record {
       right = told_here (λ file. span_fault file (blob_start blob + at) count ≡ None) mid.held old.held (sym same) part.right;
-      read = told_here (λ file. text ≡ take count (drop at (blob_bytes file blob))) mid.held old.held (sym same) part.read;
+      read = told_here (λ file. text ≡ take count (drop at (stated_blob_bytes file blob))) mid.held old.held (sym same) part.read;
     }
 
 -- the bytes that were read, and those of a part
 pub record AreRead (blob : Blob) (count : ℕ) (old : SourceView) (text : List ℕ) : Type 0 where
   pub right : IfSome old.held (λ file. span_fault file (blob_start blob) count ≡ None)
-  pub read : IfSome old.held (λ file. text ≡ take count (blob_bytes file blob))
+  pub read : IfSome old.held (λ file. text ≡ take count (stated_blob_bytes file blob))
 
 read_on : (blob : Blob) (at count : ℕ) (old mid new : SourceView) (kept : List ℕ) (out out' : SinkView) (text : List ℕ) → (first : PutsFirst blob at old mid kept out out') → IsPart blob at count mid text → AreRead blob (at + count) old (first.text ++ text)
 read_on blob at count old mid new kept out out' text first part =
@@ -178,7 +166,7 @@ read_on blob at count old mid new kept out out' text first part =
     record {
       right = told_both (λ file. span_fault file (blob_start blob) at ≡ None) (λ file. span_fault file (blob_start blob + at) count ≡ None) (λ file. span_fault file (blob_start blob) (at + count) ≡ None) old.held
           (λ file a b. spans-none file (blob_start blob) at count a b) first.right told.right;
-      read = told_both (λ file. first.text ≡ take at (blob_bytes file blob)) (λ file. text ≡ take count (drop at (blob_bytes file blob))) (λ file. first.text ++ text ≡ take (at + count) (blob_bytes file blob)) old.held
+      read = told_both (λ file. first.text ≡ take at (stated_blob_bytes file blob)) (λ file. text ≡ take count (drop at (stated_blob_bytes file blob))) (λ file. first.text ++ text ≡ take (at + count) (stated_blob_bytes file blob)) old.held
           (λ file a b. both_read file blob at count first.text text a b) first.read told.read;
     }
 
@@ -192,7 +180,7 @@ first_on blob at count old mid new kept now out out' out'' first next =
       right = read.right;
       text = first.text ++ next.text;
       read = read.read;
-      wrote = grows-on out.written out'.written out''.written first.text next.text first.wrote next.wrote;
+      wrote = grows_on out.written out'.written out''.written first.text next.text first.wrote next.wrote;
       counts = let a = first.counts in let b = next.counts in omega (arith, a, b);
     }
 
@@ -205,7 +193,7 @@ all_put blob old new now out out' first =
       right = first.right;
       wrote = (
         first.text,
-        told_both (λ file. span_fault file (blob_start blob) blob.length ≡ None) (λ file. first.text ≡ take blob.length (blob_bytes file blob)) (λ file. first.text ≡ right_bytes file blob) old.held
+        told_both (λ file. span_fault file (blob_start blob) blob.length ≡ None) (λ file. first.text ≡ take blob.length (stated_blob_bytes file blob)) (λ file. first.text ≡ right_bytes file blob) old.held
             (λ file none read. read ∙ rw none refl) first.right first.read,
         first.wrote,
       );
@@ -214,14 +202,14 @@ all_put blob old new now out out' first =
 -- ---- a piece that wasn't put as a whole
 
 -- what was put is a prefix of the bytes before the first page with a wrong word
-front_right : (file : List ℕ) (blob : Blob) (count : ℕ) (text : List ℕ) (old new : Option (List ℕ)) → count ≤ blob.length → span_fault file (blob_start blob) count ≡ None → text ≡ take count (blob_bytes file blob) → GrowsByFront old text new → GrowsByFront old (right_bytes file blob) new
+front_right : (file : List ℕ) (blob : Blob) (count : ℕ) (text : List ℕ) (old new : Option (List ℕ)) → count ≤ blob.length → span_fault file (blob_start blob) count ≡ None → text ≡ take count (stated_blob_bytes file blob) → GrowsByFront old text new → GrowsByFront old (right_bytes file blob) new
 front_right file blob count text old new within none read grows =
     let few = few-before file (blob_start blob) count blob.length within none in
     let n = length_before (blob_start blob) blob.length (span_fault file (blob_start blob) blob.length) in
-    let same : text ≡ take count (right_bytes file blob) = read ∙ sym (take-take count n (blob_bytes file blob) few) in
+    let same : text ≡ take count (right_bytes file blob) = read ∙ sym (take-take count n (stated_blob_bytes file blob) few) in
     front-of old new count (right_bytes file blob) (subst (λ (t : List ℕ). GrowsByFront old t new) same grows)
 
-fronts : (blob : Blob) (count : ℕ) (held : Option (List ℕ)) (text : List ℕ) (out out' : SinkView) → count ≤ blob.length → IfSome held (λ file. span_fault file (blob_start blob) count ≡ None) → IfSome held (λ file. text ≡ take count (blob_bytes file blob)) → GrowsByFront out.written text out'.written → (right : List ℕ) × IfSome held (λ file. right ≡ right_bytes file blob) × GrowsByFront out.written right out'.written
+fronts : (blob : Blob) (count : ℕ) (held : Option (List ℕ)) (text : List ℕ) (out out' : SinkView) → count ≤ blob.length → IfSome held (λ file. span_fault file (blob_start blob) count ≡ None) → IfSome held (λ file. text ≡ take count (stated_blob_bytes file blob)) → GrowsByFront out.written text out'.written → (right : List ℕ) × IfSome held (λ file. right ≡ right_bytes file blob) × GrowsByFront out.written right out'.written
 fronts blob count None text out out' within right read grows = (text, tt, grows)
 fronts blob count (Some file) text out out' within right read grows = (right_bytes file blob, refl, front_right file blob count text out.written out'.written within right read grows)
 
@@ -230,7 +218,7 @@ counted file s zero n found none some = omega arith
 counted file s (suc at) n found none some = let here = span-beyond file s (suc at) n found (omega arith) none some in omega (arith, here)
 
 -- up to the page of a fault these are all bytes before it
-whole_right : (file : List ℕ) (blob : Blob) (at count done : ℕ) (first next : List ℕ) (found : Fault) → 0 < count → at + count ≤ blob.length → span_fault file (blob_start blob) at ≡ None → span_fault file (blob_start blob + at) count ≡ Some found → done ≡ 1020 * found.a - (blob_start blob + at) → first ++ next ≡ take (at + done) (blob_bytes file blob) → (span_fault file (blob_start blob) blob.length ≡ Some found) × (first ++ next ≡ right_bytes file blob)
+whole_right : (file : List ℕ) (blob : Blob) (at count done : ℕ) (first next : List ℕ) (found : Fault) → 0 < count → at + count ≤ blob.length → span_fault file (blob_start blob) at ≡ None → span_fault file (blob_start blob + at) count ≡ Some found → done ≡ 1020 * found.a - (blob_start blob + at) → first ++ next ≡ take (at + done) (stated_blob_bytes file blob) → (span_fault file (blob_start blob) blob.length ≡ Some found) × (first ++ next ≡ right_bytes file blob)
 whole_right file blob at count done first next found some within none wrong is read =
     let s = blob_start blob in
     let all : span_fault file s blob.length ≡ Some found = span-longer file s (at + count) blob.length found within (spans-on file s at count (Some found) some none wrong) in
@@ -255,33 +243,28 @@ fails_whole blob at count old mid new kept out out' out'' given some within firs
     front : PutsRightFront blob old out out''
     front =
         fronts blob (at + fails.done) old.held (first.text ++ fails.text) out out'' (let few = fails.within in omega (arith, few, within)) read.right read.read
-        (front-on out.written out'.written out''.written first.text fails.text first.wrote fails.wrote)
+        (front_on out.written out'.written out''.written first.text fails.text first.wrote fails.wrote)
 
     by_fault : (answer : RunFault) → IsPartCause blob at count mid new out' out'' fails.done fails.text answer → IsBytesCause blob old new out out'' answer
     by_fault (Refused found) (kind, grows, wrong) =
         let here = told_here (λ file. (span_fault file (blob_start blob + at) count ≡ Some found) × (fails.done ≡ 1020 * found.a - (blob_start blob + at))) mid.held old.held (sym first.source.2.same.held) wrong in
-        let whole = told_both (λ file. (span_fault file (blob_start blob) at ≡ None) × (first.text ++ fails.text ≡ take (at + fails.done) (blob_bytes file blob))) (λ file. (span_fault file (blob_start blob + at) count ≡ Some found) × (fails.done ≡ 1020 * found.a - (blob_start blob + at)))
+        let whole = told_both (λ file. (span_fault file (blob_start blob) at ≡ None) × (first.text ++ fails.text ≡ take (at + fails.done) (stated_blob_bytes file blob))) (λ file. (span_fault file (blob_start blob + at) count ≡ Some found) × (fails.done ≡ 1020 * found.a - (blob_start blob + at)))
         (λ file. (span_fault file (blob_start blob) blob.length ≡ Some found) × (first.text ++ fails.text ≡ right_bytes file blob)) old.held
         (λ file a b. whole_right file blob at count fails.done first.text fails.text found some within a.0 b.0 b.1 a.1)
-        (told_both (λ file. span_fault file (blob_start blob) at ≡ None) (λ file. first.text ++ fails.text ≡ take (at + fails.done) (blob_bytes file blob)) (λ file. (span_fault file (blob_start blob) at ≡ None) × (first.text ++ fails.text ≡ take (at + fails.done) (blob_bytes file blob))) old.held (λ file a b. (a, b)) first.right read.read)
+        (told_both (λ file. span_fault file (blob_start blob) at ≡ None) (λ file. first.text ++ fails.text ≡ take (at + fails.done) (stated_blob_bytes file blob)) (λ file. (span_fault file (blob_start blob) at ≡ None) × (first.text ++ fails.text ≡ take (at + fails.done) (stated_blob_bytes file blob))) old.held (λ file a b. (a, b)) first.right read.read)
         here in (
           kind,
           told_map (λ file. (span_fault file (blob_start blob) blob.length ≡ Some found) × (first.text ++ fails.text ≡ right_bytes file blob)) (λ file. span_fault file (blob_start blob) blob.length ≡ Some found) old.held (λ file both. both.0) whole,
           (
             first.text ++ fails.text,
             told_map (λ file. (span_fault file (blob_start blob) blob.length ≡ Some found) × (first.text ++ fails.text ≡ right_bytes file blob)) (λ file. first.text ++ fails.text ≡ right_bytes file blob) old.held (λ file both. both.1) whole,
-            grows-on out.written out'.written out''.written first.text fails.text first.wrote grows,
+            grows_on out.written out'.written out''.written first.text fails.text first.wrote grows,
           ),
         )
     by_fault Source rose = (rose_before old.faults mid.faults new.faults first.source.2.faults rose, front)
     by_fault Out rose = (rose_before out.faults out'.faults out''.faults first.counts rose, front)
     by_fault Memory never = absurd never
     by_fault (Ask why) never = absurd never
-
--- what a failed step answers is the only answer
-pub by_error : {T E : Type 0} (P : T → Type 0) (Q : E → Type 0) (failure : E) (result : Result T E) → IsErrAnd result (λ e. e ≡ failure) → Q failure → MatchResult result P Q
-by_error P Q failure (Ok x) is q = absurd is
-by_error P Q failure (Err e) is q = subst Q (sym is) q
 
 -- a piece is as long as it was counted, and within the bytes that are left
 pub counted_piece : (buffer : List ℕ) (left count : ℕ) → 0 < left → 0 < length buffer → count ≡ min left (length buffer) → (length (take count buffer) ≡ count) × (0 < count) × (count ≤ left) × (count ≤ length buffer)

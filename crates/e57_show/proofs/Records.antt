@@ -6,10 +6,11 @@ use Rattle.std.proofs.Common.{◌≡◌, ℕ, ◌+◌, ◌/◌, ◌<◌, ◌≤�
 use Rattle.std.proofs.lemmas.Bool.{ltb-false}
 use Rattle.std.proofs.lemmas.List.{length-map, take-append-le}
 use Rattle.std.proofs.lemmas.Option.{slice_get-map, slice_get-get_or, get_or_from_slice_get}
-use Rattle.e57_base.specs.Count.{Rose, rose_before}
+use Rattle.e57_base.specs.Count.{Rose}
+use Rattle.e57_base.proofs.CountLaws.{rose_before}
 use Rattle.e57_base.specs.Source.{SourceView}
 use Rattle.e57_base.specs.Sink.{SinkView, Grows, GrowsByFront}
-use Rattle.e57_base.specs.Told.{told_map, told_both, told_here}
+use Rattle.e57_base.proofs.Told.{told_map, told_both, told_here}
 use Rattle.e57_base.specs.Fault.{read_as_run}
 use Rattle.e57_base.specs.declared.fault.Fault.{Fault}
 use Rattle.e57_base.specs.declared.fault.ReadFault.{ReadFault}
@@ -26,15 +27,15 @@ use Rattle.e57_layout.specs.declared.field.FieldKind.{FieldKind}
 use Rattle.e57_layout.specs.declared.field.FieldKind.TheVariants.{Int, Scaled, Bits32, Bits64, Text}
 use Rattle.e57_layout.specs.declared.field.Fixed.{Fixed}
 use Rattle.e57_layout.specs.declared.section.Section.{Section}
-use Rattle.e57_sections.specs.Section.{section_fault, section_at}
-use Rattle.e57_sections.specs.Cloud.{Leaf, fixed_of, float_from}
-use Rattle.e57_sections.specs.Met.{InSpan, OnItem}
+use Rattle.e57_cloud.specs.Section.{section_fault, section_at}
+use Rattle.e57_cloud.specs.Cloud.{Leaf, fixed_of, float_from}
+use Rattle.e57_cloud.specs.Met.{InSpan, OnItem}
 use Rattle.e57_section.specs.Asking.{AsksSpan}
-use Rattle.e57_section.specs.AskingLaws.{rises_in_span}
+use Rattle.e57_section.proofs.AskingLaws.{rises_in_span}
 use Rattle.e57_section.specs.Opening.{header_within, AsksHeader, OpensSection, IsSectionCause, is_section_kind}
 use Rattle.e57_ahead.specs.Counting.{IsWidth}
 use Rattle.e57_stream.specs.Asking.{AsksMet}
-use Rattle.e57_stream.specs.AskingLaws.{all_map, asks_met_on, asks_met_map}
+use Rattle.e57_stream.proofs.AskingLaws.{asks_met_on, asks_met_map}
 use Rattle.e57_column.specs.Finding.{is_column_kind}
 use Rattle.e57_nodes.specs.Items.{leaves_of}
 use Rattle.e57_rows.specs.Rows.{asked_of, leaf_of, field_at, no_field, heading_text, rows_text, rows_fault}
@@ -43,8 +44,9 @@ use Rattle.e57_show.specs.Extract.{Selection, stated, selected_row, selected_row
 use Rattle.e57_show.specs.Extracting.{selection_streamed, AsksSelected, PutsFirstRows, PutsRecords, FailsRecords}
 use Rattle.e57_show.specs.Streaming.{StreamEnds, IsWhole, PutsFront}
 use Rattle.e57_show.proofs.Pieces.{grows_none}
-use Rattle.e57_show.proofs.Putting.{grows-on, front-on}
 use Rattle.e57_show.proofs.Rowing.{IsSectionOf, slice_of, same-section, rows-sound, fault-sound, rows-none, fault-none}
+use Rattle.e57_base.proofs.Lists.{all_map}
+use Rattle.e57_rows.proofs.Puts.{grows_on, front_on}
 
 -- ---- the asked fields
 
@@ -226,7 +228,7 @@ pub heading-rows : {T : Type 0} (s : Selection) (old new : SourceView) (out mid 
 heading-rows s old new out mid out' (Ok x) wrote counts (sound, (rows, read, next)) = (
   told_map (λ file. selected_fault file s ≡ None) (λ file. IsWhole (selection_streamed s) file) old.held
       (λ file none. record { early = λ found never. never; late = λ found is. some-none (selected_fault file s) found none is; there = λ why never. never }) sound,
-  (heading_text s.fields s.numbers ++ rows, text-of s old.held rows read, grows-on out.written mid.written out'.written (heading_text s.fields s.numbers) rows wrote next),
+  (heading_text s.fields s.numbers ++ rows, text-of s old.held rows read, grows_on out.written mid.written out'.written (heading_text s.fields s.numbers) rows wrote next),
 )
   where
     some-none : (o : Option Fault) (found : Fault) → o ≡ None → o ≡ Some found → ⊥
@@ -238,18 +240,18 @@ heading-rows s old new out mid out' (Err fault) wrote counts is = by_cause fault
         inr (
           kind,
           wrong,
-          (heading_text s.fields s.numbers ++ rows, text-of s old.held rows read, grows-on out.written mid.written out'.written (heading_text s.fields s.numbers) rows wrote next),
+          (heading_text s.fields s.numbers ++ rows, text-of s old.held rows read, grows_on out.written mid.written out'.written (heading_text s.fields s.numbers) rows wrote next),
         )
     by_cause Source (rose, (rows, read, next)) = (
       rose,
-      inr ((heading_text s.fields s.numbers ++ rows, text-of s old.held rows read, front-on out.written mid.written out'.written (heading_text s.fields s.numbers) rows wrote next)),
+      inr ((heading_text s.fields s.numbers ++ rows, text-of s old.held rows read, front_on out.written mid.written out'.written (heading_text s.fields s.numbers) rows wrote next)),
     )
     by_cause Out (rose, (rows, read, next)) = (
       rose_before out.faults mid.faults out'.faults counts rose,
-      (heading_text s.fields s.numbers ++ rows, text-of s old.held rows read, front-on out.written mid.written out'.written (heading_text s.fields s.numbers) rows wrote next),
+      (heading_text s.fields s.numbers ++ rows, text-of s old.held rows read, front_on out.written mid.written out'.written (heading_text s.fields s.numbers) rows wrote next),
     )
     by_cause Memory (rows, read, next) =
-        inr ((heading_text s.fields s.numbers ++ rows, text-of s old.held rows read, front-on out.written mid.written out'.written (heading_text s.fields s.numbers) rows wrote next))
+        inr ((heading_text s.fields s.numbers ++ rows, text-of s old.held rows read, front_on out.written mid.written out'.written (heading_text s.fields s.numbers) rows wrote next))
     by_cause (Ask why) never = absurd never
 
 -- the heading wasn't put as a whole

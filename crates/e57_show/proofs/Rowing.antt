@@ -5,10 +5,10 @@ use Rattle.e57_base.specs.declared.fault.Fault.{Fault}
 use Rattle.e57_layout.specs.Values.{item_kind, Value}
 use Rattle.e57_layout.specs.declared.field.Field.{Field}
 use Rattle.e57_layout.specs.declared.section.Section.{Section}
-use Rattle.e57_sections.specs.Section.{section_fault, section_at}
-use Rattle.e57_sections.specs.Cloud.{Leaf, Cloud, fixed_of, section_of, float_from}
-use Rattle.e57_sections.specs.PathItem.{and_then, item_of, path_item}
-use Rattle.e57_column.specs.CloudLaws.{item_of-cloud}
+use Rattle.e57_cloud.specs.Section.{section_fault, section_at}
+use Rattle.e57_cloud.specs.Cloud.{Leaf, Cloud, fixed_of, section_of, float_from}
+use Rattle.e57_cloud.specs.PathItem.{and_then, item_of, path_item}
+use Rattle.e57_column.proofs.CloudLaws.{item_of-cloud}
 use Rattle.e57_nodes.specs.Items.{leaves_of}
 use Rattle.e57_rows.specs.Cells.{csv_row}
 use Rattle.e57_rows.specs.Rows.{asked_of, cells_of, section_row, rows_text, rows_fault}

@@ -3,10 +3,10 @@ use Rattle.std.specs.Prelude.{IfSome, IfErr, IsErrAnd, MatchResult}
 use Rattle.std.specs.List.{AllByRecursion}
 use Rattle.std.proofs.Common.{◌≡◌, ℕ, ◌≤◌, true, false, List, [], Option, Some, None, Result, Ok, Err, inl, inr, refl, sym, subst, ◌∙◌}
 use Rattle.std.proofs.lemmas.List.{append-nil}
-use Rattle.e57_base.specs.Count.{rose_before}
+use Rattle.e57_base.proofs.CountLaws.{rose_before}
 use Rattle.e57_base.specs.Source.{SourceView}
 use Rattle.e57_base.specs.Sink.{SinkView}
-use Rattle.e57_base.specs.Told.{told_map, told_both, told_here}
+use Rattle.e57_base.proofs.Told.{told_map, told_both, told_here}
 use Rattle.e57_base.specs.Fault.{open_as_run}
 use Rattle.e57_base.specs.declared.fault.AskFault.{AskFault}
 use Rattle.e57_base.specs.declared.fault.OpenFault.{OpenFault}
@@ -16,7 +16,7 @@ use Rattle.e57_base.specs.declared.fault.RunFault.TheVariants.{Refused, Source, 
 use Rattle.e57_base.specs.declared.kind.Kind.{Kind}
 use Rattle.e57_base.specs.declared.kind.Kind.TheVariants.{XmlPlace, XmlLimit}
 use Rattle.e57_page.specs.Pages.{Reading, AsksFor}
-use Rattle.e57_page.specs.PagesLaws.{asks_for_on}
+use Rattle.e57_page.proofs.PagesLaws.{asks_for_on}
 use Rattle.e57_elements.specs.declared.tree.RawNode.{RawNode}
 use Rattle.e57_elements.specs.Tree.{Element}
 use Rattle.e57_file.specs.Text.{AsksForXml, section_text, is_place_kind}

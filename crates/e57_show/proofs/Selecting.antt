@@ -1,10 +1,9 @@
 -- What is asked, looked up in a tree.
-use Rattle.std.specs.Prelude.{unwrap_or, nat_lt, nat_le, ◌&&◌, ◌==◌, if◌then◌else◌, IfSome, option_map, MatchResult}
-use Rattle.std.specs.List.{AllByRecursion, range_with_len, slice_split, position_from}
+use Rattle.std.specs.Prelude.{unwrap_or, nat_lt, nat_le, ◌==◌, if◌then◌else◌, IfSome, option_map, MatchResult}
+use Rattle.std.specs.List.{AllByRecursion, range_with_len, slice_split, position_from, onto_first}
 use Rattle.std.specs.Str.{bytes_eq}
 use Rattle.std.proofs.Common.{◌≡◌, ℕ, zero, suc, ◌+◌, ◌-◌, ◌^◌, ◌<◌, ◌≤◌, Bool, true, false, List, [], ◌∷◌, ◌++◌, length, drop, map, slice_get, slice_index_or, Bor, Option, Some, None, Result, Ok, Err, refl, sym, subst, ap, ◌∙◌, arith, append_assoc}
-use Rattle.std.specs.List.{onto_first}
-use Rattle.std.proofs.lemmas.Bool.{lt-ltb, le-ltb, le-leb, eq-eqb}
+use Rattle.std.proofs.lemmas.Bool.{lt-ltb, le-ltb, le-leb, eq-eqb, and_from}
 use Rattle.std.proofs.lemmas.List.{append-nil, drop_all, drop_more, map-id}
 use Rattle.std.proofs.lemmas.List.FromFn.{map-range_with_len_more}
 use Rattle.std.proofs.lemmas.Option.{slice_get_past, slice_get_within, slice_get-get_or}
@@ -16,12 +15,11 @@ use Rattle.e57_layout.specs.declared.field.Field.{Field}
 use Rattle.e57_elements.specs.Lawful.{AreNodes}
 use Rattle.e57_elements.specs.Tree.{Element, preorder}
 use Rattle.e57_elements.specs.declared.tree.RawNode.{RawNode}
-use Rattle.e57_nodes.specs.Shape.{shape_of}
+use Rattle.e57_nodes.specs.Shape.{shape_of, node_count}
 use Rattle.e57_nodes.specs.Typed.{typed_fault}
 use Rattle.e57_nodes.specs.Items.{StatedItem, stated_cloud, stated_blob, stated_items}
 use Rattle.e57_nodes.specs.Places.{places_in}
-use Rattle.e57_nodes.specs.Laws.Sound.{IsSoundItem, sound_items}
-use Rattle.e57_nodes.specs.Shape.{node_count}
+use Rattle.e57_nodes.proofs.Laws.Sound.{IsSoundItem, sound_items}
 use Rattle.e57_tree.specs.declared.items.Cloud.{Cloud}
 use Rattle.e57_tree.specs.Held.{clouds_among, clouds_of, cloud_fields}
 use Rattle.e57_file.specs.Opened.{field_number}
@@ -190,15 +188,10 @@ pub within-cloud : (records from : ℕ) (count : Option ℕ) → asked_end from 
 within-cloud records from None within = omega (arith, within)
 within-cloud records from (Some n) within = within
 
--- ---- the answers of `select`
-
-both-true : (a b : Bool) → a ≡ true → b ≡ true → (a && b) ≡ true
-both-true a b is also = rw (is, also) refl
-
 -- the cloud isn't there
 pub cloud-lacking : (asked : Asked) (nodes : List RawNode) (clouds : List Cloud) → ((e : Element) → nodes ≡ preorder e → clouds ≡ clouds_of e) → length clouds ≤ asked.cloud → IsUnselected nodes asked (Ask (ask.Cloud asked.cloud (length clouds)))
 cloud-lacking asked nodes clouds of past = (
-  both-true (asked.cloud == asked.cloud) (nat_le (length clouds) asked.cloud) (eq-eqb asked.cloud asked.cloud refl) (le-leb (length clouds) asked.cloud past),
+  and_from (asked.cloud == asked.cloud) (nat_le (length clouds) asked.cloud) (eq-eqb asked.cloud asked.cloud refl) (le-leb (length clouds) asked.cloud past),
   λ e same.
       let is = of e same in
       subst (λ (cs : List Cloud). select asked e ≡ Err (ask.Cloud asked.cloud (length cs))) (sym is) (no-cloud asked e (subst (λ (cs : List Cloud). length cs ≤ asked.cloud) is past)),
@@ -236,7 +229,7 @@ field-lacking asked nodes cloud fields fault there lacks = by_names asked.names 
 -- the records aren't there
 pub range-lacking : (asked : Asked) (nodes : List RawNode) (cloud : Cloud) (fields : List Field) (numbers : List ℕ) (end : ℕ) → IsThere nodes asked.cloud cloud fields → numbers_of fields asked.names ≡ Ok numbers → end ≡ asked_end asked.from asked.count → cloud.count < end → IsUnselected nodes asked (Ask (ask.Range end cloud.count))
 range-lacking asked nodes cloud fields numbers end there is same past = (
-  both-true (end == asked_end asked.from asked.count) (nat_lt cloud.count end) (eq-eqb end (asked_end asked.from asked.count) same) (lt-ltb cloud.count end past),
+  and_from (end == asked_end asked.from asked.count) (nat_lt cloud.count end) (eq-eqb end (asked_end asked.from asked.count) same) (lt-ltb cloud.count end past),
   λ e node.
       let at = there e node in
       subst (λ (n : ℕ). select asked e ≡ Err (ask.Range n cloud.count)) (sym same)

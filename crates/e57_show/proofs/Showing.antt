@@ -1,7 +1,7 @@
 -- What is shown of a file that was read.
 use Rattle.std.proofs.Common.{◌≡◌, ℕ, List, [], ◌∷◌, ◌++◌, Option, Some, None, inl, inr, ap, ◌∙◌}
 use Rattle.e57_base.specs.Source.{SourceView}
-use Rattle.e57_base.specs.Told.{told_map, told_both}
+use Rattle.e57_base.proofs.Told.{told_map, told_both}
 use Rattle.e57_base.specs.declared.fault.Fault.{Fault}
 use Rattle.e57_elements.specs.declared.tree.RawNode.{RawNode}
 use Rattle.e57_elements.specs.Tree.{Element, preorder}
@@ -11,8 +11,8 @@ use Rattle.e57_elements.specs.Spelling.{spelling}
 use Rattle.e57_elements.specs.Fault.{IsFirstFault}
 use Rattle.e57_nodes.specs.Shape.{shape_of}
 use Rattle.e57_nodes.specs.Typed.{typed_fault}
-use Rattle.e57_file.specs.Text.{section_fault, section_text, IsTextRead}
-use Rattle.e57_file.specs.Opened.{HasTree, HasNodes}
+use Rattle.e57_file.specs.Text.{xml_fault, section_text, IsTextRead}
+use Rattle.e57_file.specs.Opened.{HasXmlTree, HasNodes}
 use Rattle.e57_show.specs.Showing.{HasNoFault, ShowsText}
 use Rattle.e57_show.specs.Info.{IsShown, info_shown}
 use Rattle.e57_show.specs.Listing.{list_text, IsListed, list_shown}
@@ -26,8 +26,8 @@ IsEither = (text : List ℕ) (tree : Element) (fault : Fault) → Spells text tr
 abbrev pub IsOneTree : Type 0
 IsOneTree = (text : List ℕ) (a b : Element) → Spells text a → Spells text b → a ≡ b
 
-no_text_fault : (file : List ℕ) (tree : Element) → IsEither → HasTree file tree → HasNoFault info_shown file
-no_text_fault file tree either has found (inl early) = absurd (not_both (section_fault file) found has.sound early) where
+no_text_fault : (file : List ℕ) (tree : Element) → IsEither → HasXmlTree file tree → HasNoFault info_shown file
+no_text_fault file tree either has found (inl early) = absurd (not_both (xml_fault file) found has.sound early) where
   not_both : (o : Option Fault) (x : Fault) → o ≡ None → o ≡ Some x → ⊥
   not_both o x none some = cc
 no_text_fault file tree either has found (inr (before, late)) = either (section_text file) tree found has.spells has.is_lawful late
@@ -35,7 +35,7 @@ no_text_fault file tree either has found (inr (before, late)) = either (section_
 pub shows : (old : SourceView) (nodes : List RawNode) (bytes text : List ℕ) → IsEither → IsTextRead old nodes → ((e : Element) → nodes ≡ preorder e → bytes ≡ spelling e) → text ≡ bytes ++ 10 ∷ [] → ShowsText info_shown old text
 shows old nodes bytes text either read spelled whole =
     record {
-      sound = told_both (λ file. section_fault file ≡ None) (λ file. Reads (section_text file) nodes) (λ file. HasNoFault info_shown file) old.held
+      sound = told_both (λ file. xml_fault file ≡ None) (λ file. Reads (section_text file) nodes) (λ file. HasNoFault info_shown file) old.held
           (λ file sound is. no_text_fault file is.tree either (record { sound = sound; spells = is.spells; is_lawful = is.is_lawful })) read.sound read.tree;
       output = told_map (λ file. Reads (section_text file) nodes) (λ file. IsShown file text) old.held (λ file is. (is.tree, is.spells, whole ∙ ap (λ (b : List ℕ). b ++ 10 ∷ []) (spelled is.tree is.in_preorder))) read.tree;
     }

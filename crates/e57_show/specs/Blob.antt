@@ -18,14 +18,14 @@ use Rattle.e57_nodes.specs.Shape.{shape_of}
 use Rattle.e57_nodes.specs.Typed.{typed_fault}
 use Rattle.e57_tree.specs.declared.items.Blob.{Blob}
 use Rattle.e57_tree.specs.Held.{blobs_of}
-use Rattle.e57_file.specs.Opened.{HasTree, IsTreeFault, is_tree_kind}
-use Rattle.e57_file.specs.Blob.{head_length, blob_head, blob_start, blob_fault, LiesIn, blob_bytes}
+use Rattle.e57_file.specs.Opened.{HasXmlTree, IsTreeFault, is_tree_kind}
+use Rattle.e57_file.specs.Blob.{head_length, blob_head, blob_start, stated_blob_fault, LiesIn, stated_blob_bytes}
 use Rattle.e57_file.specs.BlobReading.{is_blob_kind}
 use Rattle.e57_show.specs.Streaming.{Streamed}
 
 -- The file's text spells this tree, and none of its nodes has a fault.
 pub record HasSoundTree (file : List ℕ) (tree : Element) : Type 0 where
-  pub has : HasTree file tree
+  pub has : HasXmlTree file tree
   pub typed : typed_fault (shape_of tree) ≡ None
 
 -- the file has this blob, with number k
@@ -34,7 +34,7 @@ HasBlobAt file k blob = (tree : Element) × HasSoundTree file tree × (slice_get
 
 -- the first fault of the XML section or of a node, or else of the blob's section
 abbrev pub IsBlobFault : ℕ → List ℕ → Fault → Type 0
-IsBlobFault k file found = IsTreeFault file found ⊎ ((blob : Blob) × HasBlobAt file k blob × (blob_fault file blob ≡ Some found))
+IsBlobFault k file found = IsTreeFault file found ⊎ ((blob : Blob) × HasBlobAt file k blob × (stated_blob_fault file blob ≡ Some found))
 
 -- the file has so many blobs, which are too few for a number k
 abbrev pub HasFewerBlobs : ℕ → List ℕ → AskFault → Type 0
@@ -47,7 +47,7 @@ is_blob_ask k _ = false
 
 -- the first page of the blob's bytes with a wrong word, where the blob's section has no fault
 abbrev pub IsLatePage : ℕ → List ℕ → Fault → Type 0
-IsLatePage k file found = (blob : Blob) × HasBlobAt file k blob × (blob_fault file blob ≡ None) × (span_fault file (blob_start blob) blob.length ≡ Some found)
+IsLatePage k file found = (blob : Blob) × HasBlobAt file k blob × (stated_blob_fault file blob ≡ None) × (span_fault file (blob_start blob) blob.length ≡ Some found)
 
 abbrev pub is_page_kind : Kind → Bool
 is_page_kind Page = true
@@ -60,10 +60,10 @@ length_before q n (Some found) = payload_length * found.a - q
 
 -- the blob's bytes before the first page with a wrong word
 abbrev pub right_bytes : List ℕ → Blob → List ℕ
-right_bytes file blob = take (length_before (blob_start blob) blob.length (span_fault file (blob_start blob) blob.length)) (blob_bytes file blob)
+right_bytes file blob = take (length_before (blob_start blob) blob.length (span_fault file (blob_start blob) blob.length)) (stated_blob_bytes file blob)
 
 abbrev pub IsBlobOutput : ℕ → List ℕ → List ℕ → Type 0
-IsBlobOutput k file text = (blob : Blob) × HasBlobAt file k blob × (blob_fault file blob ≡ None) × (text ≡ right_bytes file blob)
+IsBlobOutput k file text = (blob : Blob) × HasBlobAt file k blob × (stated_blob_fault file blob ≡ None) × (text ≡ right_bytes file blob)
 
 -- the first fault before the blob's bytes, or these up to a page with a wrong word
 abbrev pub blob_streamed : ℕ → Streamed
@@ -90,7 +90,7 @@ needed n (Some found) = head_length
 abbrev pub AreBlobPages : ℕ → List ℕ → List ℕ → Type 0
 AreBlobPages k file pages =
     (blob : Blob) × HasBlobAt file k blob × LiesIn (logical_size file) blob
-    × RisesWithin (blob_head blob / payload_length) (span_end (blob_head blob) (needed blob.length (blob_fault file blob))) pages
+    × RisesWithin (blob_head blob / payload_length) (span_end (blob_head blob) (needed blob.length (stated_blob_fault file blob))) pages
 
 -- Pages of the XML section that weren't kept were asked for, and then pages of the blob's section, both in ascending order
 -- and each at most once, and no other.

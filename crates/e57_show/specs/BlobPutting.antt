@@ -12,7 +12,7 @@ use Rattle.e57_page.specs.Kept.{is_kept}
 use Rattle.e57_page.specs.File.{span_fault}
 use Rattle.e57_page.specs.Pages.{AsksWithin}
 use Rattle.e57_tree.specs.declared.items.Blob.{Blob}
-use Rattle.e57_file.specs.Blob.{head_length, blob_head, blob_start, blob_bytes}
+use Rattle.e57_file.specs.Blob.{head_length, blob_head, blob_start, stated_blob_bytes}
 use Rattle.e57_show.specs.Blob.{is_page_kind, right_bytes}
 
 -- The last page of the n logical bytes from place q on is kept.
@@ -26,7 +26,7 @@ AsksBetween blob from until old new = AsksWithin (span_end (blob_head blob) (hea
 -- So many of the blob's bytes from number `from` on were read: their pages are right.
 pub record IsPart (blob : Blob) (from count : ℕ) (old : SourceView) (text : List ℕ) : Type 0 where
   pub right : IfSome old.held (λ file. span_fault file (blob_start blob + from) count ≡ None)
-  pub read : IfSome old.held (λ file. text ≡ take count (drop from (blob_bytes file blob)))
+  pub read : IfSome old.held (λ file. text ≡ take count (drop from (stated_blob_bytes file blob)))
 
 -- They were read and put.
 pub record PutsPart (blob : Blob) (from count : ℕ) (old new : SourceView) (now : List ℕ) (out out' : SinkView) : Type 0 where
@@ -43,7 +43,7 @@ pub record PutsFirst (blob : Blob) (count : ℕ) (old new : SourceView) (now : L
   pub keeps : KeepsLast (blob_head blob) (head_length + count) now
   pub right : IfSome old.held (λ file. span_fault file (blob_start blob) count ≡ None)
   pub text : List ℕ
-  pub read : IfSome old.held (λ file. text ≡ take count (blob_bytes file blob))
+  pub read : IfSome old.held (λ file. text ≡ take count (stated_blob_bytes file blob))
   pub wrote : Grows out.written text out'.written
   pub counts : out.faults ≤ out'.faults
 

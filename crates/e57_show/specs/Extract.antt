@@ -13,9 +13,9 @@ use Rattle.e57_page.specs.XmlSection.{xml_start}
 use Rattle.e57_layout.specs.declared.field.Field.{Field}
 use Rattle.e57_elements.specs.Tree.{Element}
 use Rattle.e57_nodes.specs.Items.{leaves_of}
-use Rattle.e57_sections.specs.Cloud.{Leaf, Cloud as StatedCloud}
-use Rattle.e57_sections.specs.PathItem.{path_item}
-use Rattle.e57_sections.specs.Met.{InSectionHeader, OnRecords}
+use Rattle.e57_cloud.specs.Cloud.{Leaf, Cloud as StatedCloud}
+use Rattle.e57_cloud.specs.PathItem.{path_item}
+use Rattle.e57_cloud.specs.Met.{InSectionHeader, OnRecords}
 use Rattle.e57_section.specs.Opening.{is_section_kind}
 use Rattle.e57_column.specs.Finding.{is_column_kind}
 use Rattle.e57_tree.specs.declared.items.Cloud.{Cloud}

@@ -8,7 +8,7 @@ use Rattle.e57_layout.specs.declared.field.FieldKind.TheVariants.{Int, Scaled, B
 use Rattle.e57_nodes.specs.Shape.{Shape, shape_of}
 use Rattle.e57_nodes.specs.Paths.{path_of}
 use Rattle.e57_nodes.specs.Items.{StatedItem, stated_cloud, stated_blob, stated_items}
-use Rattle.e57_file.specs.Opened.{HasTree, IsTreeFault, is_tree_kind}
+use Rattle.e57_file.specs.Opened.{HasXmlTree, IsTreeFault, is_tree_kind}
 use Rattle.e57_show.specs.Showing.{Shown}
 
 -- `integer MIN MAX`, `scaled MIN MAX SCALE OFFSET`, `float32`, `float64`, or `string`, after a space
@@ -49,7 +49,7 @@ list_text tree = item_lines tree 0 0 (stated_items tree)
 
 -- the lines of the tree that the XML section spells
 abbrev pub IsListed : List ℕ → List ℕ → Type 0
-IsListed file text = (tree : Element) × HasTree file tree × (text ≡ list_text (shape_of tree))
+IsListed file text = (tree : Element) × HasXmlTree file tree × (text ≡ list_text (shape_of tree))
 
 -- the first fault of the section or of a node, or the lines
 abbrev pub list_shown : Shown

@@ -3,7 +3,7 @@
 ghost use Rattle.std.specs.Prelude.{◌≡◌, ◌+◌, ◌<◌, ◌≤◌, length, Some, None, MatchResult};
 ghost use Rattle.std.specs.List.{AllByRecursion};
 ghost use Rattle.e57_nodes.specs.Items.{leaves_of};
-ghost use Rattle.e57_sections.specs.Cloud.{float_from};
+ghost use Rattle.e57_cloud.specs.Cloud.{float_from};
 ghost use Rattle.e57_section.specs.Opening.{most_records};
 ghost use Rattle.e57_tree.specs.Held.{AreCloudFields};
 ghost use Rattle.e57_show.specs.Opening.{JudgesPlaceFirst};

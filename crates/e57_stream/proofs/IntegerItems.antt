@@ -9,14 +9,14 @@ use Rattle.e57_bits.specs.Bits.{number}
 use Rattle.e57_layout.specs.Values.{integers, whole, here, out_of_range}
 use Rattle.e57_layout.specs.Widths.{width}
 use Rattle.e57_layout.specs.Items.{above, item_at}
-use Rattle.e57_layout.specs.Laws.Items.{bits_at-found, item_at-integers, above-within, above-over}
-use Rattle.e57_layout.specs.Laws.Widths.{gap-above}
+use Rattle.e57_layout.proofs.Laws.Items.{bits_at-found, item_at-integers, above-within, above-over}
+use Rattle.e57_layout.proofs.Laws.Widths.{gap-above}
 use Rattle.e57_stream.specs.declared.bytestream.Bytestream.{Bytestream}
 use Rattle.e57_stream.specs.declared.bytestream.Integers.{Integers}
 use Rattle.e57_stream.specs.declared.chunk.Chunk.{Chunk}
 use Rattle.e57_stream.specs.Standing.{IsWithin, items_held, moved_on}
 use Rattle.e57_stream.specs.Reading.{ReadsItems, StopsAt}
-use Rattle.e57_stream.specs.ReadingLaws.{AreHere, reads_taken, stops_out}
+use Rattle.e57_stream.proofs.ReadingLaws.{AreHere, reads_taken, stops_out}
 use Rattle.e57_stream.proofs.WindowItems.{number_behind, bits_behind}
 use Rattle.e57_stream.specs.Integers.{IsRange, kind_of, range_at, FillsIntegers, whole_at, ReadsIntegers, StopsIntegers, WindowWritten, window_number, TakesIntegers}
 

@@ -8,7 +8,7 @@ use Rattle.e57_base.specs.declared.fault.ReadFault.{ReadFault}
 use Rattle.e57_lanes.specs.Unpack.{Written}
 use Rattle.e57_layout.specs.Values.{whole}
 use Rattle.e57_layout.specs.Widths.{width}
-use Rattle.e57_layout.specs.Laws.Widths.{bit_length-le}
+use Rattle.e57_layout.proofs.Laws.Widths.{bit_length-le}
 use Rattle.std.specs.Int.{int_gap}
 use Rattle.e57_stream.specs.declared.bytestream.Bytestream.{Bytestream}
 use Rattle.e57_stream.specs.declared.bytestream.Integers.{Integers}
@@ -16,7 +16,7 @@ use Rattle.e57_stream.specs.declared.chunk.Chunk.{Chunk}
 use Rattle.e57_stream.specs.Standing.{IsWithin, items_held, moved_on, let_gone, wanted, IsOnward}
 use Rattle.e57_stream.specs.Taking.{TakesPacket, TakesNone}
 use Rattle.e57_stream.specs.Reading.{ReadsItems, StopsAt}
-use Rattle.e57_stream.specs.ReadingLaws.{reads_on, stops_on, reads_nothing}
+use Rattle.e57_stream.proofs.ReadingLaws.{reads_on, stops_on, reads_nothing}
 use Rattle.e57_stream.specs.Integers.{IsRange, kind_of, FillsIntegers, whole_at, ReadsIntegers, StopsIntegers, TakesIntegers}
 use Rattle.e57_stream.proofs.IntegerItems.{fills_integers, within_as}
 use Rattle.e57_stream.proofs.WindowItems.{HasNone, none_taken}

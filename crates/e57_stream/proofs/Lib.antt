@@ -1,3 +1,6 @@
+pub mod AskingLaws
+pub mod StandingLaws
+pub mod ReadingLaws
 pub mod Windows
 pub mod Takings
 pub mod Parts

@@ -8,7 +8,7 @@ use Rattle.e57_stream.specs.declared.chunk.Chunk.{Chunk}
 use Rattle.e57_stream.specs.Standing.{IsWithin, IsOnward, let_gone, wanted}
 use Rattle.e57_stream.specs.Taking.{TakesPacket, TakesNone}
 use Rattle.e57_stream.specs.Reading.{ReadsItems, StopsAt}
-use Rattle.e57_stream.specs.ReadingLaws.{AreNumbers, reads_none, stops_short}
+use Rattle.e57_stream.proofs.ReadingLaws.{AreNumbers, reads_none, stops_short}
 use Rattle.e57_stream.proofs.WindowItems.{HasNone}
 
 later : (source source' : SourceView) (b : Bytestream) (before after : Chunk) → TakesPacket source b (let_gone before) after source' → before.taken < after.taken

@@ -16,7 +16,7 @@ part_in xs ys n k j d room below =
     let place : n + j ≡ length (take n xs) + j = omega (arith, size) in
     ap (λ (i : ℕ). get_or (put_mid n k xs ys) i d) place ∙ get_or-append-add (take n xs) (ys ++ drop k (drop n xs)) j d ∙ get_or_append_left ys (drop k (drop n xs)) d j below
 
-part_behind : {A : Type 0} (xs ys : List A) (n k j : ℕ) (d : A) → n ≤ length xs → length ys ≡ k → get_or (put_mid n k xs ys) (n + (k + j)) d ≡ get_or xs (n + (k + j)) d
+pub part_behind : {A : Type 0} (xs ys : List A) (n k j : ℕ) (d : A) → n ≤ length xs → length ys ≡ k → get_or (put_mid n k xs ys) (n + (k + j)) d ≡ get_or xs (n + (k + j)) d
 part_behind xs ys n k j d room size_too =
     let size : length (take n xs) ≡ n = length-take n xs ∙ omega (arith, room) in
     let place : n + (k + j) ≡ length (take n xs) + (length ys + j) = omega (arith, size, size_too) in

@@ -7,11 +7,11 @@ use Rattle.std.proofs.Math.Pow.{pow_mono}
 use Rattle.std.proofs.lemmas.Nat.{pow_pos}
 use Rattle.std.proofs.lemmas.Bool.{cases_lt}
 use Rattle.e57_layout.specs.Widths.{width}
-use Rattle.e57_layout.specs.Laws.Widths.{width-holds, width-least}
+use Rattle.e57_layout.proofs.Laws.Widths.{width-holds, width-least}
 use Rattle.e57_stream.specs.Integers.{IsRange}
 
 -- a number of which the highest of w bits is one
-highest_bit : (n w : ℕ) → 0 < w → n / 2 ^ (w - 1) ≡ 1 → (2 ^ (w - 1) ≤ n) × (n < 2 ^ w)
+pub highest_bit : (n w : ℕ) → 0 < w → n / 2 ^ (w - 1) ≡ 1 → (2 ^ (w - 1) ≤ n) × (n < 2 ^ w)
 highest_bit n w some one =
     let power : 0 < 2 ^ (w - 1) = pow_pos (w - 1) in
     let parts : 2 ^ (w - 1) * (n / 2 ^ (w - 1)) ≡ 2 ^ (w - 1) * 1 = ap (λ (q : ℕ). 2 ^ (w - 1) * q) one in

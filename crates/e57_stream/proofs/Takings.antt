@@ -3,7 +3,7 @@ use Rattle.std.specs.Prelude.{◌≡◌, ℕ, ◌+◌, ◌<◌, ◌≤◌, ◌==
 use Rattle.std.proofs.Common.{refl, sym, ap, ◌∙◌, arith, inl, inr, append_assoc}
 use Rattle.e57_base.specs.Fault.{fault}
 use Rattle.e57_base.specs.Source.{SourceView}
-use Rattle.e57_base.specs.Told.{told_map, told_both}
+use Rattle.e57_base.proofs.Told.{told_map, told_both, told_all}
 use Rattle.e57_base.specs.declared.fault.ReadFault.{ReadFault}
 use Rattle.e57_base.specs.declared.fault.ReadFault.TheVariants.{Refused, Source}
 use Rattle.e57_base.specs.declared.kind.Kind.{Kind}
@@ -11,37 +11,29 @@ use Rattle.e57_base.specs.declared.kind.Kind.TheVariants.{RestartUnindexed}
 use Rattle.e57_page.specs.File.{logical}
 use Rattle.e57_layout.specs.declared.section.Section.{Section}
 use Rattle.e57_layout.specs.Packets.{length_at}
-use Rattle.e57_sections.specs.Walk.{Packet, packet_at, packet_fault}
-use Rattle.e57_sections.specs.Met.{InSpan, needed_at}
+use Rattle.e57_cloud.specs.Walk.{Packet, packet_at, packet_fault}
+use Rattle.e57_cloud.specs.Met.{InSpan, needed_at}
 use Rattle.e57_section.specs.declared.load.Loaded.{Loaded}
 use Rattle.e57_section.specs.declared.load.Loaded.TheVariants.{Stream, Index, Empty}
 use Rattle.e57_section.specs.Steps.{is_packet_kind}
 use Rattle.e57_section.specs.Loading.{loaded_length, needed_by, IsLoaded, loaded_as, LoadsPacket, IsPacketCause, LosesPacket}
-use Rattle.e57_section.specs.AskingLaws.{needed_loaded, loaded_packet}
+use Rattle.e57_section.proofs.AskingLaws.{needed_loaded, loaded_packet}
 use Rattle.e57_stream.specs.declared.bytestream.Bytestream.{Bytestream}
 use Rattle.e57_stream.specs.declared.chunk.Chunk.{Chunk}
 use Rattle.e57_stream.specs.Asking.{AsksMet, AsksNear}
-use Rattle.e57_stream.specs.AskingLaws.{asks_met_none, asks_met_map, asks_near_nothing, asks_near_wider, packet_near, packet_met}
+use Rattle.e57_stream.proofs.AskingLaws.{asks_met_none, asks_met_map, asks_near_nothing, asks_near_wider, packet_near, packet_met}
 use Rattle.e57_stream.specs.Standing.{HasTaken, Reaches}
-use Rattle.e57_stream.specs.StandingLaws.{taken_data, taken_other, finish_end, finish_fault, finish_next}
+use Rattle.e57_stream.proofs.StandingLaws.{taken_data, taken_other, finish_end, finish_fault, finish_next}
 use Rattle.e57_stream.specs.Taking.{short_at, restart_at_place, is_walk_kind, SamePlace, InNext, TakesPacket, Finishes, IsFinishCause, TakesNone}
-
-told_all : (P : List ℕ → Type 0) (held : Option (List ℕ)) → ((file : List ℕ) → P file) → IfSome held P
-told_all P None each = tt
-told_all P (Some file) each = each file
+use Rattle.e57_section.proofs.Lengths.{needed-most}
 
 same_taken : (file : List ℕ) (b : Bytestream) (entry q q' : ℕ) (fresh : Bool) (xs ys : List ℕ) → q ≡ q' → xs ≡ ys → HasTaken file b entry q fresh xs → HasTaken file b entry q' fresh ys
 same_taken file b entry q q' fresh xs ys e g has = rw (← e, ← g) has
 
-needed_less : (answer : Loaded) → 4 ≤ loaded_length answer → (4 ≤ needed_by answer) × (needed_by answer ≤ loaded_length answer)
-needed_less (Stream n restart) some = (some, omega arith)
-needed_less (Index n) some = (omega arith, some)
-needed_less (Empty n) some = (omega arith, some)
-
 -- the pages of a packet that was loaded
 near_loaded : (old new : SourceView) (kept now : List ℕ) (s : Section) (q : ℕ) (answer : Loaded) (held : Option (List (List ℕ))) → LoadsPacket old kept s q answer held new now → AsksNear q (q + loaded_length answer) old new
 near_loaded old new kept now s q answer held loads =
-    let less = needed_less answer loads.some in
+    let less = needed-most answer loads.some in
     packet_near kept q (needed_by answer) (loaded_length answer) old new less.0 less.1 loads.source
 
 -- a page of the packet, which follows
@@ -52,7 +44,7 @@ next_met old new b chunk there met =
 
 met_loaded : (old new : SourceView) (kept now : List ℕ) (b : Bytestream) (chunk : Chunk) (answer : Loaded) (held : Option (List (List ℕ))) → LoadsPacket old kept b.section chunk.taken answer held new now → AsksMet (InNext b chunk) old new
 met_loaded old new kept now b chunk answer held loads =
-    let less = needed_less answer loads.some in
+    let less = needed-most answer loads.some in
     let some = loads.some in
     let within = loads.within in
     next_met old new b chunk (omega (arith, some, within)) (packet_met kept chunk.taken (needed_by answer) (λ file. needed_at file b.section chunk.taken) old new less.0

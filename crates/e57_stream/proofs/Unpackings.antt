@@ -6,7 +6,7 @@ use Rattle.std.proofs.lemmas.Int.{ints}
 use Rattle.std.proofs.lemmas.List.{length-drop}
 use Rattle.e57_lanes.specs.Unpack.{CanUnpack}
 use Rattle.e57_layout.specs.Widths.{width}
-use Rattle.e57_layout.specs.Laws.Widths.{bit_length-le, width-holds, gap-lt, gap-back}
+use Rattle.e57_layout.proofs.Laws.Widths.{bit_length-le, width-holds, gap-lt, gap-back}
 use Rattle.e57_stream.specs.declared.bytestream.Integers.{Integers}
 use Rattle.e57_stream.specs.Integers.{IsRange}
 

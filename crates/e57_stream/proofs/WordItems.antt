@@ -5,12 +5,12 @@ use Rattle.std.proofs.lemmas.List.{length-take-le, get_or_append_left, take_rest
 use Rattle.e57_base.specs.Source.{SourceView}
 use Rattle.e57_bits.specs.Bits.{number}
 use Rattle.e57_layout.specs.Values.{words, word, here}
-use Rattle.e57_layout.specs.Laws.Items.{bits_at-found, item_at-words}
+use Rattle.e57_layout.proofs.Laws.Items.{bits_at-found, item_at-words}
 use Rattle.e57_stream.specs.declared.bytestream.Bytestream.{Bytestream}
 use Rattle.e57_stream.specs.declared.chunk.Chunk.{Chunk}
 use Rattle.e57_stream.specs.Standing.{IsWithin, IsOnward, items_held, moved_on}
 use Rattle.e57_stream.specs.Reading.{ReadsItems}
-use Rattle.e57_stream.specs.ReadingLaws.{AreHere, reads_taken}
+use Rattle.e57_stream.proofs.ReadingLaws.{AreHere, reads_taken}
 use Rattle.e57_stream.specs.Words.{word_at, ReadsWords, TakesWords}
 use Rattle.e57_stream.proofs.WindowItems.{number_behind, bits_behind, moved_none, moved_at, HasNone, none_taken}
 use Rattle.e57_stream.proofs.Parts.{behind_front, length_front}

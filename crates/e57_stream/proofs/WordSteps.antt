@@ -9,7 +9,7 @@ use Rattle.e57_stream.specs.declared.chunk.Chunk.{Chunk}
 use Rattle.e57_stream.specs.Standing.{IsWithin, IsOnward, let_gone, wanted}
 use Rattle.e57_stream.specs.Taking.{TakesPacket, IsFinishCause, TakesNone}
 use Rattle.e57_stream.specs.Reading.{ReadsItems, StopsAt}
-use Rattle.e57_stream.specs.ReadingLaws.{reads_on, stops_on, reads_nothing}
+use Rattle.e57_stream.proofs.ReadingLaws.{reads_on, stops_on, reads_nothing}
 use Rattle.e57_stream.specs.Words.{FillsWords, word_at, ReadsWords, IsWordFault, StopsWords, TakesWords}
 use Rattle.e57_stream.proofs.WordItems.{no_words}
 use Rattle.e57_stream.proofs.NextPacket.{packet_read, packet_stopped, MayStep, may_step_on, step_less}

@@ -3,7 +3,7 @@ use Rattle.std.specs.Prelude.{ℕ, ◌-◌, ◌≤◌, List, length, IfSome}
 use Rattle.std.specs.List.{AllByRecursion}
 use Rattle.e57_base.specs.Source.{SourceView}
 use Rattle.e57_page.specs.Pages.{AsksFor}
-use Rattle.e57_sections.specs.Met.{InSpan}
+use Rattle.e57_cloud.specs.Met.{InSpan}
 
 -- Pages were asked for, each of which is met in the file, where it is told.
 pub record AsksMet (met : List ℕ → ℕ → Type 0) (old new : SourceView) : Type 0 where

@@ -1,10 +1,7 @@
 pub mod Window
 pub mod Asking
-pub mod AskingLaws
 pub mod Standing
 pub mod Taking
-pub mod StandingLaws
 pub mod Reading
-pub mod ReadingLaws
 pub mod Integers
 pub mod Words

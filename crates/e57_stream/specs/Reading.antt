@@ -9,8 +9,8 @@ use Rattle.e57_base.specs.declared.kind.Kind.{Kind}
 use Rattle.e57_base.specs.declared.kind.Kind.TheVariants.{ValueRange}
 use Rattle.e57_layout.specs.Values.{ItemKind, Value, kind_width}
 use Rattle.e57_layout.specs.Items.{item_at}
-use Rattle.e57_sections.specs.Met.{OnWalk, lacks_item}
-use Rattle.e57_sections.specs.PathItem.{item_in}
+use Rattle.e57_cloud.specs.Met.{OnWalk, lacks_item}
+use Rattle.e57_cloud.specs.PathItem.{item_in}
 use Rattle.e57_stream.specs.declared.bytestream.Bytestream.{Bytestream}
 use Rattle.e57_stream.specs.declared.chunk.Chunk.{Chunk}
 use Rattle.e57_stream.specs.Asking.{AsksMet, AsksNear}

@@ -1,10 +1,9 @@
 -- Where a reader of a field's stream stands in a chunk.
 use Rattle.std.specs.Prelude.{◌≡◌, ℕ, ◌+◌, ◌-◌, ◌*◌, ◌/◌, ◌%◌, ◌<◌, ◌≤◌, ◌⊎◌, min, Bool, true, false, List, [], ◌++◌, length, drop}
 use Rattle.e57_layout.specs.declared.section.Section.{Section}
-use Rattle.e57_sections.specs.Walk.{Packet}
-use Rattle.e57_sections.specs.Chunks.{data_packets, stream_of, by_chunk}
-use Rattle.e57_sections.specs.PathItem.{ChunkAt}
-use Rattle.e57_sections.specs.Laws.Fronts.{IsFront}
+use Rattle.e57_cloud.specs.Walk.{Packet, IsFront}
+use Rattle.e57_cloud.specs.Chunks.{data_packets, stream_of, by_chunk}
+use Rattle.e57_cloud.specs.PathItem.{ChunkAt}
 use Rattle.e57_section.specs.Opening.{most_records}
 use Rattle.e57_stream.specs.declared.bytestream.Bytestream.{Bytestream}
 use Rattle.e57_stream.specs.declared.chunk.Chunk.{Chunk}

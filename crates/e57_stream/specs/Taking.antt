@@ -8,9 +8,9 @@ use Rattle.e57_base.specs.declared.fault.ReadFault.{ReadFault}
 use Rattle.e57_base.specs.declared.fault.ReadFault.TheVariants.{Refused, Source}
 use Rattle.e57_base.specs.declared.kind.Kind.{Kind}
 use Rattle.e57_base.specs.declared.kind.Kind.TheVariants.{StreamShort, RestartUnindexed}
-use Rattle.e57_sections.specs.Chunks.{stream_of}
-use Rattle.e57_sections.specs.Met.{InSpan, needed_at}
-use Rattle.e57_sections.specs.PathItem.{stretch, ended_by, or_short}
+use Rattle.e57_cloud.specs.Chunks.{stream_of}
+use Rattle.e57_cloud.specs.Met.{InSpan, needed_at}
+use Rattle.e57_cloud.specs.PathItem.{stretch, ended_by, or_short}
 use Rattle.e57_section.specs.Steps.{is_packet_kind}
 use Rattle.e57_stream.specs.declared.bytestream.Bytestream.{Bytestream}
 use Rattle.e57_stream.specs.declared.chunk.Chunk.{Chunk}

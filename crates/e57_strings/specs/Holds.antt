@@ -1,6 +1,6 @@
 -- Where a cursor stands in a stream, wherever the stream was cut.
 use Rattle.std.specs.Prelude.{◌≡◌, ℕ, ◌+◌, ◌<◌, ◌≤◌, List, ◌++◌, length, take, drop}
-use Rattle.e57_layout.specs.Strings.{StringRead, string_found, string_too_long, string_cut_off, first_prefix, first_string, string_limit, limited}
+use Rattle.e57_layout.specs.Strings.{StringRead, string_found, string_too_long, string_cut_off, first_prefix, first_string, string_limit, within_limit}
 use Rattle.e57_strings.specs.Progress.{Progress, in_prefix, in_string, prefix_size, stated_length}
 use Rattle.e57_strings.specs.declared.cursor.Fed.{Fed}
 use Rattle.e57_strings.specs.declared.cursor.Fed.TheVariants.{More, Length, Whole}
@@ -30,6 +30,6 @@ Reads so_far piece (More taken) after out =
     Holds (so_far ++ piece) after out × IsUnfinished (first_string (so_far ++ piece))
 Reads so_far piece (Length taken n) after out =
     Holds (so_far ++ take taken piece) after out
-    × ((rest : List ℕ) → first_prefix (so_far ++ take taken piece ++ rest) ≡ limited n rest)
+    × ((rest : List ℕ) → first_prefix (so_far ++ take taken piece ++ rest) ≡ within_limit n rest)
 Reads so_far piece (Whole taken n) after out =
     n ≤ string_limit → (rest : List ℕ) → first_string (so_far ++ take taken piece ++ rest) ≡ string_found (take n out) rest

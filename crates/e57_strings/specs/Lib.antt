@@ -2,4 +2,3 @@ pub mod Progress
 pub mod Feeds
 pub mod Steps
 pub mod Holds
-pub mod HoldsLaws

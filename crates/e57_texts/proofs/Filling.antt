@@ -11,13 +11,13 @@ use Rattle.e57_stream.specs.declared.chunk.Chunk.{Chunk}
 use Rattle.e57_stream.specs.Standing.{wanted}
 use Rattle.e57_stream.specs.Window.{held_bytes}
 use Rattle.e57_texts.specs.Standing.{IsWithinText}
-use Rattle.e57_texts.specs.Reading.{begin_of, end_of, text_of, FillsTexts, ReadsTexts, ReadsStrings, StopsStrings, IsFitting, LacksText}
+use Rattle.e57_texts.specs.Reading.{begin_of, end_of, string_held, FillsTexts, ReadsTexts, ReadsStrings, StopsStrings, IsFitting, LacksText}
 use Rattle.e57_texts.specs.Steps.{TakesText, NeedsMore}
 use Rattle.e57_texts.proofs.Rows.{reads_none, reads_more, reads_looked, looked_length, reads_same, stops_at}
 
 -- ---- parts of a buffer
 
-held_inside : (front part : List ℕ) (begin end : ℕ) → begin ≤ end → end ≤ length front → held_bytes (front ++ part) begin end ≡ held_bytes front begin end
+pub held_inside : (front part : List ℕ) (begin end : ℕ) → begin ≤ end → end ≤ length front → held_bytes (front ++ part) begin end ≡ held_bytes front begin end
 held_inside front part begin end order inside =
     let size = length-drop begin front in
     ap (take (end - begin)) (drop-append-le begin front part (omega (arith, order, inside))) ∙ take-append-le (end - begin) (drop begin front) part (omega (arith, size, inside, order))
@@ -50,7 +50,7 @@ begin_other filled ends n end zero few = refl
 begin_other filled ends n end (suc j) few = end_other ends n end j (inl (omega (arith, few)))
 
 -- no end is above where the next string begins
-ends_rise : (filled : ℕ) (ends : List ℕ) (n : ℕ) → ((j : ℕ) → j < n → begin_of filled ends j ≤ end_of ends j) → (j : ℕ) → j < n → end_of ends j ≤ begin_of filled ends n
+pub ends_rise : (filled : ℕ) (ends : List ℕ) (n : ℕ) → ((j : ℕ) → j < n → begin_of filled ends j ≤ end_of ends j) → (j : ℕ) → j < n → end_of ends j ≤ begin_of filled ends n
 ends_rise filled ends zero order j below = absurd (omega (arith, below))
 ends_rise filled ends (suc n) order j below =
     ⊎_elim
@@ -122,14 +122,14 @@ fills_more filled n at count bytes0 bytes ends0 ends part f place size fits limi
     }
 
 -- the strings before are as they were
-text_before : (filled n at count : ℕ) (bytes0 bytes ends0 ends part : List ℕ) → Fills filled n at bytes0 bytes ends0 ends → (j : ℕ) → j < n → text_of filled bytes ends j ≡ text_of filled (take at bytes ++ part) (set ends n (at + count)) j
+text_before : (filled n at count : ℕ) (bytes0 bytes ends0 ends part : List ℕ) → Fills filled n at bytes0 bytes ends0 ends → (j : ℕ) → j < n → string_held filled bytes ends j ≡ string_held filled (take at bytes ++ part) (set ends n (at + count)) j
 text_before filled n at count bytes0 bytes ends0 ends part f j below =
     let begins = f.begins in
     let risen = ends_rise filled ends n f.fills.order j below in
     sym (ap₂ (λ (x y : ℕ). held_bytes (take at bytes ++ part) x y) (begin_other filled ends n (at + count) j (omega (arith, below))) (end_other ends n (at + count) j (inl below))
     ∙ held_front bytes part (begin_of filled ends j) (end_of ends j) at (f.fills.order j below) (omega (arith, risen, begins)) f.room)
 
-text_last : (filled n at count : ℕ) (bytes0 bytes ends0 ends part : List ℕ) → Fills filled n at bytes0 bytes ends0 ends → n < length ends → take count part ≡ text_of filled (take at bytes ++ part) (set ends n (at + count)) n
+text_last : (filled n at count : ℕ) (bytes0 bytes ends0 ends part : List ℕ) → Fills filled n at bytes0 bytes ends0 ends → n < length ends → take count part ≡ string_held filled (take at bytes ++ part) (set ends n (at + count)) n
 text_last filled n at count bytes0 bytes ends0 ends part f place =
     sym (ap₂ (λ (x y : ℕ). held_bytes (take at bytes ++ part) x y) (begin_other filled ends n (at + count) n (omega arith) ∙ sym f.begins) (get_or-set_same ends n (at + count) 0 place)
     ∙ held_last bytes part at count f.room)
@@ -141,10 +141,10 @@ pub record Row (old : SourceView) (b : Bytestream) (before : Chunk) (want filled
   pub want_is : want ≡ wanted before (length ends)
   pub few : n ≤ want
   pub buffers : Fills filled n at bytes bytes' ends ends'
-  pub reads : ReadsTexts old b before n n (text_of filled bytes' ends') after new
+  pub reads : ReadsTexts old b before n n (string_held filled bytes' ends') after new
 
 pub row_none : (source : SourceView) (b : Bytestream) (chunk : Chunk) (want filled : ℕ) (bytes ends : List ℕ) → want ≡ wanted chunk (length ends) → filled ≤ length bytes → IsWithinText b.section chunk → Row source b chunk want filled 0 filled bytes bytes ends ends chunk source
-row_none source b chunk want filled bytes ends want_is room is = record { want_is = want_is; few = omega arith; buffers = fills_none filled bytes ends room; reads = reads_none source b chunk (text_of filled bytes ends) is }
+row_none source b chunk want filled bytes ends want_is room is = record { want_is = want_is; few = omega arith; buffers = fills_none filled bytes ends room; reads = reads_none source b chunk (string_held filled bytes ends) is }
 
 -- a record is left
 pub row_left : (s0 s1 : SourceView) (b : Bytestream) (c0 c1 : Chunk) (want filled n at : ℕ) (bytes0 bytes ends0 ends : List ℕ) → n < want → c0.at ≤ c0.until → Row s0 b c0 want filled n at bytes0 bytes ends0 ends c1 s1 → c1.at < c1.until
@@ -172,7 +172,7 @@ row_more s0 s1 s2 b c0 c1 c2 want filled n at count bytes0 bytes ends0 ends out 
       want_is = f.want_is;
       few = omega (arith, below);
       buffers = fills_more filled n at count bytes0 bytes ends0 ends part f.buffers place (same ∙ out_size) (omega (arith, same, fits)) (omega (arith, limit, text_size, same, fits));
-      reads = reads_more s0 s1 s2 b c0 c1 c2 n (text_of filled bytes ends) (text_of filled (take at bytes ++ part) (set ends n (at + count))) (take count part) (row_left s0 s1 b c0 c1 want filled n at bytes0 bytes ends0 ends below low f)
+      reads = reads_more s0 s1 s2 b c0 c1 c2 n (string_held filled bytes ends) (string_held filled (take at bytes ++ part) (set ends n (at + count))) (take count part) (row_left s0 s1 b c0 c1 want filled n at bytes0 bytes ends0 ends below low f)
           (λ j early. text_before filled n at count bytes0 bytes ends0 ends part f.buffers j early) (text_last filled n at count bytes0 bytes ends0 ends part f.buffers place) f.reads takes;
     }
 
@@ -187,8 +187,8 @@ row_needs s0 s1 s2 b c0 c1 c2 want filled n at k bytes0 bytes ends0 ends out out
     let more = needs.more in
     record {
       fills = f.buffers.fills;
-      reads = reads_looked s0 s1 s2 b c0 c1 c2 n k needs.size (text_of filled bytes ends) f.reads needs.has;
-      why = (below, omega (arith, more, out_size, begins), needs.has.states.limit, looked_length s0 s1 s2 b c0 c1 c2 n k needs.size (text_of filled bytes ends) f.reads needs.has);
+      reads = reads_looked s0 s1 s2 b c0 c1 c2 n k needs.size (string_held filled bytes ends) f.reads needs.has;
+      why = (below, omega (arith, more, out_size, begins), needs.has.states.limit, looked_length s0 s1 s2 b c0 c1 c2 n k needs.size (string_held filled bytes ends) f.reads needs.has);
     }
 
 -- where the buffer's last part is as it was
@@ -212,7 +212,7 @@ fills_part filled n at bytes0 bytes ends0 ends part f size =
       same_ends = f.fills.same_ends;
     }
 
-text_part : (filled n at : ℕ) (bytes0 bytes ends0 ends part : List ℕ) → Fills filled n at bytes0 bytes ends0 ends → (j : ℕ) → j < n → text_of filled bytes ends j ≡ text_of filled (take at bytes ++ part) ends j
+text_part : (filled n at : ℕ) (bytes0 bytes ends0 ends part : List ℕ) → Fills filled n at bytes0 bytes ends0 ends → (j : ℕ) → j < n → string_held filled bytes ends j ≡ string_held filled (take at bytes ++ part) ends j
 text_part filled n at bytes0 bytes ends0 ends part f j below =
     let begins = f.begins in
     let risen = ends_rise filled ends n f.fills.order j below in
@@ -225,4 +225,4 @@ row_stops s0 s1 s2 b c0 c1 c2 want filled n at found bytes0 bytes ends0 ends out
     let begins = f.buffers.begins in
     let all = length-filled bytes part at f.buffers.room (same ∙ out_size) in
     stops_at s0 s1 s2 b c0 c1 c2 want filled n (length out) found bytes0 (take at bytes ++ part) ends0 ends below (fills_part filled n at bytes0 bytes ends0 ends part f.buffers (same ∙ out_size))
-    (reads_same s0 s1 b c0 c1 n n (text_of filled bytes ends) (text_of filled (take at bytes ++ part) ends) (λ j early. text_part filled n at bytes0 bytes ends0 ends part f.buffers j early) f.reads) lacks (omega (arith, out_size, begins, all)) fits
+    (reads_same s0 s1 b c0 c1 n n (string_held filled bytes ends) (string_held filled (take at bytes ++ part) ends) (λ j early. text_part filled n at bytes0 bytes ends0 ends part f.buffers j early) f.reads) lacks (omega (arith, out_size, begins, all)) fits

@@ -3,7 +3,7 @@ use Rattle.std.proofs.Common.{◌≡◌, ℕ, zero, suc, ◌+◌, ◌-◌, ◌<�
 use Rattle.std.specs.Prelude.{Option, Some, IfSome, Result, Ok, Err}
 use Rattle.e57_base.specs.Fault.{fault}
 use Rattle.e57_base.specs.Source.{SourceView}
-use Rattle.e57_base.specs.Told.{told_map}
+use Rattle.e57_base.proofs.Told.{told_map}
 use Rattle.e57_base.specs.declared.fault.Fault.{Fault}
 use Rattle.e57_base.specs.declared.fault.ReadFault.{ReadFault}
 use Rattle.e57_base.specs.declared.fault.ReadFault.TheVariants.{Refused, Source}
@@ -11,13 +11,13 @@ use Rattle.e57_base.specs.declared.kind.Kind.TheVariants.{StreamShort, StringLim
 use Rattle.e57_layout.specs.Values.{strings, Value, word, octets, Outcome, here, short, over_limit, out_of_range}
 use Rattle.e57_layout.specs.Items.{item_at}
 use Rattle.e57_layout.specs.Strings.{PrefixRead, prefix_too_long, prefix_cut_off, first_prefix, StringRead, string_found, string_too_long, string_cut_off, first_string, on_string, string_at, on_prefix, string_length_at, after_strings}
-use Rattle.e57_layout.specs.Laws.Strings.{string_length_at-zero, after_strings-length_at}
-use Rattle.e57_layout.specs.Laws.Found.{PrefixStays, first_prefix-stays}
-use Rattle.e57_sections.specs.PathItem.{stretch, ended_by, or_short, answer, item_in}
+use Rattle.e57_layout.proofs.Laws.Strings.{string_length_at-zero, after_strings-length_at}
+use Rattle.e57_layout.proofs.Laws.Found.{PrefixStays, first_prefix-stays}
+use Rattle.e57_cloud.specs.PathItem.{stretch, ended_by, or_short, answer, item_in}
 use Rattle.e57_stream.specs.declared.bytestream.Bytestream.{Bytestream}
 use Rattle.e57_stream.specs.declared.chunk.Chunk.{Chunk}
 use Rattle.e57_stream.specs.Standing.{Reaches}
-use Rattle.e57_stream.specs.StandingLaws.{taken_first}
+use Rattle.e57_stream.proofs.StandingLaws.{taken_first}
 use Rattle.e57_stream.specs.Taking.{IsFinishCause}
 use Rattle.e57_stream.specs.Reading.{chunk_item}
 use Rattle.e57_texts.specs.Standing.{StandsText}

@@ -1,25 +1,20 @@
 -- Pieces of a stream, packet by packet.
 use Rattle.std.proofs.Common.{◌≡◌, ℕ, ◌≤◌, List, [], ◌++◌, take, drop, refl, sym, subst, ap, ◌∙◌, arith, append_assoc}
-use Rattle.std.specs.Prelude.{Option, Some, None, IfSome}
 use Rattle.std.proofs.lemmas.List.{take-append-drop, append-nil}
-use Rattle.e57_base.specs.Count.{rose_before}
+use Rattle.e57_base.proofs.CountLaws.{rose_before}
 use Rattle.e57_base.specs.Source.{SourceView}
-use Rattle.e57_base.specs.Told.{told_map, told_both, told_here}
+use Rattle.e57_base.proofs.Told.{told_map, told_both, told_here, told_all}
 use Rattle.e57_base.specs.declared.fault.Fault.{Fault}
 use Rattle.e57_base.specs.declared.fault.ReadFault.{ReadFault}
 use Rattle.e57_base.specs.declared.fault.ReadFault.TheVariants.{Refused, Source}
-use Rattle.e57_sections.specs.Laws.Fronts.{front-walked}
+use Rattle.e57_cloud.proofs.Laws.Fronts.{front-walked}
 use Rattle.e57_stream.specs.declared.bytestream.Bytestream.{Bytestream}
 use Rattle.e57_stream.specs.declared.chunk.Chunk.{Chunk}
 use Rattle.e57_stream.specs.Asking.{AsksMet}
-use Rattle.e57_stream.specs.AskingLaws.{asks_met_none, asks_met_on, asks_met_map, asks_near_none, asks_near_on}
+use Rattle.e57_stream.proofs.AskingLaws.{asks_met_none, asks_met_on, asks_met_map, asks_near_none, asks_near_on}
 use Rattle.e57_stream.specs.Standing.{HasTaken, Reaches}
 use Rattle.e57_stream.specs.Taking.{SamePlace, InNext, TakesPacket, Finishes, IsFinishCause, TakesNone}
 use Rattle.e57_texts.specs.Pieces.{IsAsked, TakesPiece, EndsWanting, IsPieceCause, LacksPiece}
-
-pub told_all : (P : List ℕ → Type 0) (held : Option (List ℕ)) → ((file : List ℕ) → P file) → IfSome held P
-told_all P None each = tt
-told_all P (Some file) each = each file
 
 pub same_here : (chunk : Chunk) → SamePlace chunk chunk
 same_here chunk = record { start = refl; until = refl; entry = refl; at = refl; bit = refl }

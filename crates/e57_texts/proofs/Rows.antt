@@ -3,27 +3,26 @@ use Rattle.std.proofs.Common.{◌≡◌, ℕ, ◌+◌, ◌-◌, ◌<◌, ◌≤�
 use Rattle.std.specs.Prelude.{Ok, Err, IfSome}
 use Rattle.std.proofs.lemmas.Bool.{cases_lt}
 use Rattle.std.proofs.lemmas.List.{take-append-drop}
-use Rattle.e57_base.specs.Count.{rose_before}
+use Rattle.e57_base.proofs.CountLaws.{rose_before}
 use Rattle.e57_base.specs.Source.{SourceView}
-use Rattle.e57_base.specs.Told.{told_map, told_both, told_here}
+use Rattle.e57_base.proofs.Told.{told_map, told_both, told_here, told_all}
 use Rattle.e57_base.specs.declared.fault.ReadFault.{ReadFault}
 use Rattle.e57_base.specs.declared.fault.ReadFault.TheVariants.{Refused, Source}
 use Rattle.e57_layout.specs.Values.{strings, word, octets}
 use Rattle.e57_layout.specs.Strings.{StringRead, string_found, first_prefix, first_string, after_strings}
-use Rattle.e57_layout.specs.Laws.Strings.{after_strings-next}
-use Rattle.e57_layout.specs.Laws.Found.{StringStays, first_string-stays}
+use Rattle.e57_layout.proofs.Laws.Strings.{after_strings-next}
+use Rattle.e57_layout.proofs.Laws.Found.{StringStays, first_string-stays}
 use Rattle.e57_stream.specs.declared.bytestream.Bytestream.{Bytestream}
 use Rattle.e57_stream.specs.declared.chunk.Chunk.{Chunk}
 use Rattle.e57_stream.specs.Asking.{AsksMet, AsksNear}
-use Rattle.e57_stream.specs.AskingLaws.{asks_met_none, asks_met_on, asks_met_map, asks_near_none, asks_near_on}
+use Rattle.e57_stream.proofs.AskingLaws.{asks_met_none, asks_met_on, asks_met_map, asks_near_none, asks_near_on}
 use Rattle.e57_stream.specs.Standing.{Reaches}
 use Rattle.e57_stream.specs.Taking.{SamePlace}
 use Rattle.e57_stream.specs.Reading.{chunk_item, IsMet}
 use Rattle.e57_texts.specs.Standing.{IsWithinText, StandsText, StaysText}
 use Rattle.e57_texts.specs.Pieces.{IsCut, TakesPiece, HasPrefix}
-use Rattle.e57_texts.specs.Reading.{chunk_length, OnWay, AsksOnWay, IsNextCause, IsLengthCause, IsFitting, LacksText, begin_of, text_of, FillsTexts, ReadsTexts, IsTextCause, StopsStrings, SkipsStrings, StopsSkipping}
+use Rattle.e57_texts.specs.Reading.{chunk_length, OnWay, AsksOnWay, IsNextCause, IsLengthCause, IsFitting, LacksText, begin_of, string_held, FillsTexts, ReadsTexts, IsTextCause, StopsStrings, SkipsStrings, StopsSkipping}
 use Rattle.e57_texts.specs.Steps.{one_on, TakesText, SkipsText}
-use Rattle.e57_texts.proofs.Pieces.{told_all}
 use Rattle.e57_texts.proofs.Lengths.{chunk_later}
 use Rattle.e57_texts.proofs.Texts.{behind, begins_after, chunk_text, chunk_states, asks_on_way}
 
@@ -337,7 +336,7 @@ fits_on s0 s1 b first second n left left' Source at room held stays stands fits 
 
 -- some strings, and then a stop
 pub stops_at : (s0 s1 s2 : SourceView) (b : Bytestream) (first second third : Chunk) (want filled n left : ℕ) (found : ReadFault) (bytes bytes' ends ends' : List ℕ) → n < want → FillsTexts filled n bytes bytes' ends ends'
-    → ReadsTexts s0 b first n n (text_of filled bytes' ends') second s1 → LacksText s1 b second found third s2 → left ≡ length bytes' - begin_of filled ends' n → IsFitting s1 b second second.at left found → StopsStrings s0 b first want filled n found bytes bytes' ends ends' third s2
+    → ReadsTexts s0 b first n n (string_held filled bytes' ends') second s1 → LacksText s1 b second found third s2 → left ≡ length bytes' - begin_of filled ends' n → IsFitting s1 b second second.at left found → StopsStrings s0 b first want filled n found bytes bytes' ends ends' third s2
 stops_at s0 s1 s2 b first second third want filled n left found bytes bytes' ends ends' below fills f g room fits =
     let held = f.near.asks.same.held in
     let at = f.at in

@@ -5,7 +5,7 @@ use Rattle.std.proofs.lemmas.Bool.{lt-ltb, le-ltb}
 use Rattle.std.proofs.lemmas.List.{take_all, drop_all}
 use Rattle.e57_base.specs.Fault.{fault}
 use Rattle.e57_base.specs.Source.{SourceView}
-use Rattle.e57_base.specs.Told.{told_map}
+use Rattle.e57_base.proofs.Told.{told_map, told_all}
 use Rattle.e57_base.specs.declared.fault.Fault.{Fault}
 use Rattle.e57_base.specs.declared.fault.ReadFault.{ReadFault}
 use Rattle.e57_base.specs.declared.fault.ReadFault.TheVariants.{Refused, Source}
@@ -14,22 +14,21 @@ use Rattle.e57_base.specs.declared.kind.Kind.TheVariants.{StreamShort, StringLim
 use Rattle.e57_layout.specs.Values.{strings, word, octets, here, short, over_limit}
 use Rattle.e57_layout.specs.Items.{item_at}
 use Rattle.e57_layout.specs.Strings.{PrefixRead, prefix_found, prefix_too_long, prefix_cut_off, first_prefix, StringRead, string_found, string_too_long, string_cut_off, after_prefix, first_string, on_string, string_at, on_prefix, string_length_at, after_strings}
-use Rattle.e57_layout.specs.Laws.Strings.{string_at-zero, string_at-suc, string_length_at-zero, after_strings-at, after_strings-length_at, after_strings-stays}
-use Rattle.e57_layout.specs.Laws.Found.{PrefixStays, first_prefix-stays, StringStays, first_string-stays}
-use Rattle.e57_sections.specs.Met.{lacks_item}
-use Rattle.e57_sections.specs.PathItem.{stretch, ended_by, or_short, item_in}
+use Rattle.e57_layout.proofs.Laws.Strings.{string_at-zero, string_at-suc, string_length_at-zero, after_strings-at, after_strings-length_at, after_strings-stays}
+use Rattle.e57_layout.proofs.Laws.Found.{PrefixStays, first_prefix-stays, StringStays, first_string-stays}
+use Rattle.e57_cloud.specs.Met.{lacks_item}
+use Rattle.e57_cloud.specs.PathItem.{stretch, ended_by, or_short, item_in}
 use Rattle.e57_stream.specs.declared.bytestream.Bytestream.{Bytestream}
 use Rattle.e57_stream.specs.declared.chunk.Chunk.{Chunk}
 use Rattle.e57_stream.specs.Asking.{AsksMet}
-use Rattle.e57_stream.specs.AskingLaws.{asks_met_map}
+use Rattle.e57_stream.proofs.AskingLaws.{asks_met_map}
 use Rattle.e57_stream.specs.Standing.{HasTaken, Reaches}
-use Rattle.e57_stream.specs.StandingLaws.{taken_first}
+use Rattle.e57_stream.proofs.StandingLaws.{taken_first}
 use Rattle.e57_stream.specs.Taking.{is_walk_kind, SamePlace, Finishes}
 use Rattle.e57_stream.specs.Reading.{chunk_item}
 use Rattle.e57_texts.specs.Standing.{StandsText}
 use Rattle.e57_texts.specs.Pieces.{IsCut, IsFewer, IsAsked, TakesPiece, EndsWanting, IsPieceCause, LacksPiece}
 use Rattle.e57_texts.specs.Reading.{chunk_length, limit_at, is_text_kind, OnWay, AsksOnWay, IsNextCause, LacksText}
-use Rattle.e57_texts.proofs.Pieces.{told_all}
 
 -- ---- strings behind strings
 

@@ -6,9 +6,9 @@ use Rattle.e57_base.specs.declared.fault.Fault.{Fault}
 use Rattle.e57_base.specs.declared.fault.ReadFault.{ReadFault}
 use Rattle.e57_base.specs.declared.fault.ReadFault.TheVariants.{Refused, Source}
 use Rattle.e57_layout.specs.Strings.{string_cut_off, first_string}
-use Rattle.e57_sections.specs.Walk.{Packet}
-use Rattle.e57_sections.specs.Chunks.{data_packets, stream_of}
-use Rattle.e57_sections.specs.Met.{InSpan, needed_at, IsWalked}
+use Rattle.e57_cloud.specs.Walk.{Packet}
+use Rattle.e57_cloud.specs.Chunks.{data_packets, stream_of}
+use Rattle.e57_cloud.specs.Met.{InSpan, needed_at, IsWalked}
 use Rattle.e57_stream.specs.declared.bytestream.Bytestream.{Bytestream}
 use Rattle.e57_stream.specs.declared.chunk.Chunk.{Chunk}
 use Rattle.e57_stream.specs.Asking.{AsksMet, AsksNear}

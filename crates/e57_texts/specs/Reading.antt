@@ -10,8 +10,8 @@ use Rattle.e57_base.specs.declared.kind.Kind.{Kind}
 use Rattle.e57_base.specs.declared.kind.Kind.TheVariants.{StringLimit}
 use Rattle.e57_layout.specs.Values.{Value, strings, word, octets}
 use Rattle.e57_layout.specs.Strings.{string_limit, string_length_at}
-use Rattle.e57_sections.specs.Met.{OnWalk, lacks_item}
-use Rattle.e57_sections.specs.PathItem.{item_in}
+use Rattle.e57_cloud.specs.Met.{OnWalk, lacks_item}
+use Rattle.e57_cloud.specs.PathItem.{item_in}
 use Rattle.e57_stream.specs.declared.bytestream.Bytestream.{Bytestream}
 use Rattle.e57_stream.specs.declared.chunk.Chunk.{Chunk}
 use Rattle.e57_stream.specs.Asking.{AsksMet, AsksNear}
@@ -84,8 +84,8 @@ abbrev pub end_of : List ℕ → ℕ → ℕ
 end_of ends j = slice_index_or ends j 0
 
 -- string j
-abbrev pub text_of : ℕ → List ℕ → List ℕ → ℕ → List ℕ
-text_of filled bytes ends j = held_bytes bytes (begin_of filled ends j) (end_of ends j)
+abbrev pub string_held : ℕ → List ℕ → List ℕ → ℕ → List ℕ
+string_held filled bytes ends j = held_bytes bytes (begin_of filled ends j) (end_of ends j)
 
 -- The ends of the first n strings were put, one after another from byte `filled` on; all other ends and the bytes before
 -- `filled` are as they were.
@@ -123,7 +123,7 @@ IsNext old b before want count left (Some n) =
 -- Of `want` strings `count` were read into the buffers.
 pub record ReadsStrings (old : SourceView) (b : Bytestream) (before : Chunk) (want filled count : ℕ) (next : Option ℕ) (bytes bytes' ends ends' : List ℕ) (after : Chunk) (new : SourceView) : Type 0 where
   pub fills : FillsTexts filled count bytes bytes' ends ends'
-  pub reads : ReadsTexts old b before count (looked_at count next) (text_of filled bytes' ends') after new
+  pub reads : ReadsTexts old b before count (looked_at count next) (string_held filled bytes' ends') after new
   pub why : IsNext old b before want count (length bytes' - begin_of filled ends' count) next
 
 -- why the string of record i wasn't read or reached: the fault on the way to it, or the source failed
@@ -139,7 +139,7 @@ pub record StopsStrings (old : SourceView) (b : Bytestream) (before : Chunk) (wa
   pub fills : FillsTexts filled done bytes bytes' ends ends'
   pub stays : StaysText b before after
   pub met : AsksMet (λ file p. StandsText file b before → IsMet file b strings before before.at (done + 1) p) old new
-  pub items : IfSome old.held (λ file. StandsText file b before → (j : ℕ) → j < done → chunk_item file b strings before (before.at + j) ≡ Ok (octets (text_of filled bytes' ends' j)))
+  pub items : IfSome old.held (λ file. StandsText file b before → (j : ℕ) → j < done → chunk_item file b strings before (before.at + j) ≡ Ok (octets (string_held filled bytes' ends' j)))
   pub cause : IsTextCause old b before (before.at + done) found new
   pub fits : IsFitting old b before (before.at + done) (length bytes' - begin_of filled ends' done) found
 

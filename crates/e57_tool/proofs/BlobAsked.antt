@@ -1,9 +1,10 @@
 -- What pages `blob` asks for, with those of the opening.
-use Rattle.std.proofs.Common.{◌≡◌, ℕ, ◌*◌, ◌/◌, ◌<◌, ◌≤◌, min, max, Bool, true, false, List, [], ◌∷◌, ◌++◌, length, Option, Some, None, Result, Ok, Err, inl, inr, refl, sym, subst, ◌∙◌, arith, lit≤}
+use Rattle.std.proofs.Common.{◌≡◌, ℕ, ◌*◌, ◌/◌, ◌≤◌, min, max, List, [], ◌∷◌, ◌++◌, length, Option, Some, None, Result, Err, inl, inr, refl, sym, subst, ◌∙◌, arith, lit≤}
 use Rattle.std.specs.Prelude.{IfSome, MatchOption, IfErr, ◌⊎◌}
-use Rattle.e57_base.specs.Source.{SourceView, Asks, asks_on}
+use Rattle.e57_base.specs.Source.{SourceView, Asks}
+use Rattle.e57_base.proofs.SourceLaws.{asks_on}
 use Rattle.e57_base.specs.Sink.{SinkView}
-use Rattle.e57_base.specs.Told.{told_map, told_both, told_here}
+use Rattle.e57_base.proofs.Told.{told_map, told_both, told_here}
 use Rattle.e57_base.specs.declared.fault.Fault.{Fault}
 use Rattle.e57_base.specs.declared.fault.ReadFault.{ReadFault}
 use Rattle.e57_base.specs.declared.fault.ReadFault.TheVariants as read
@@ -12,10 +13,10 @@ use Rattle.e57_base.specs.declared.fault.RunFault.TheVariants.{Refused}
 use Rattle.e57_page.specs.declared.header.Header.{Header}
 use Rattle.e57_page.specs.Header.{header_of}
 use Rattle.e57_page.specs.Kept.{KeepsFirst}
-use Rattle.e57_page.specs.KeptLaws.{rises_from_unkept}
+use Rattle.e57_page.proofs.KeptLaws.{rises_from_unkept}
 use Rattle.e57_page.specs.Place.{RisesWithin, span_end}
-use Rattle.e57_page.specs.PlaceLaws.{rises_from_lower, rises_to_higher}
-use Rattle.e57_page.specs.File.{logical_size, opening_fault, length_fault}
+use Rattle.e57_page.proofs.PlaceLaws.{rises_from_lower, rises_to_higher}
+use Rattle.e57_page.specs.File.{logical_size, opening_fault}
 use Rattle.e57_page.specs.Opening.{IsOpenedFile, IsUnopenedFile, AsksAtMostForFirst}
 use Rattle.e57_page.specs.Pages.{Reading}
 use Rattle.e57_page.specs.XmlSection.{xml_start, xml_span_fault}

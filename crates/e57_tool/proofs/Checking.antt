@@ -1,14 +1,14 @@
 -- The command that judges a file: how it ends, from the verdict and from what was put, and that it keeps its promise.
-use Rattle.std.proofs.Common.{◌≡◌, ℕ, true, List, Option, Some, None, Result, Ok, Err, inl, inr, refl, ap, subst, sym, ◌∙◌}
-use Rattle.std.specs.Prelude.{IfSome, MatchResult}
+use Rattle.std.proofs.Common.{◌≡◌, ℕ, true, List, Some, Result, Ok, Err, inl, inr, refl, ap, subst, sym, ◌∙◌}
+use Rattle.std.specs.Prelude.{MatchResult}
 use Rattle.std.specs.Option.{option_or}
-use Rattle.e57_base.specs.Count.{rose_before}
+use Rattle.e57_base.proofs.CountLaws.{rose_before}
 use Rattle.e57_base.specs.Fault.{read_as_open}
 use Rattle.e57_base.specs.Source.{SourceView}
 use Rattle.e57_base.specs.Target.{TargetView}
 use Rattle.e57_base.specs.Sink.{SinkView}
-use Rattle.e57_base.specs.Told.{told_map, told_here}
-use Rattle.e57_base.specs.Opening.{opens_later}
+use Rattle.e57_base.proofs.Told.{told_map, told_here, told_is}
+use Rattle.e57_base.proofs.OpeningLaws.{opens_later}
 use Rattle.e57_base.specs.declared.fault.Fault.{Fault}
 use Rattle.e57_base.specs.declared.fault.ReadFault.{ReadFault}
 use Rattle.e57_base.specs.declared.fault.ReadFault.TheVariants as read
@@ -29,7 +29,7 @@ use Rattle.e57_tool.specs.Ending.{status_of}
 use Rattle.e57_tool.specs.Outside.{Outside, outside, NoCallFails}
 use Rattle.e57_tool.specs.Run.{CallsSource, OneFile, IsDone, Keeps}
 use Rattle.e57_tool.specs.Check.{accepting, JudgesFile, PutsAnswer, ChecksFile, HasAcceptedFile, check_promise}
-use Rattle.e57_tool.proofs.Keeping.{held_file, held_is}
+use Rattle.e57_tool.proofs.Keeping.{held_file}
 use Rattle.e57_tool.proofs.Streaming.{opens_file}
 
 -- ---- the verdict
@@ -102,7 +102,7 @@ done : HasOneVerdict → (name : List ℕ) (before after : Outside) (ending : En
 done one name before after Done ends ready calls = inl refl
 done one name before after RefusedOnOut (found, puts) (file, there, accepts) calls =
     let held = held_file before.source.stock name file after.source.held there puts.has.source.file.held in
-    let wrong = held_is (λ file. IsVerdict file (refused found)) after.source.held file held puts.has.is in
+    let wrong = told_is (λ file. IsVerdict file (refused found)) after.source.held file held puts.has.is in
     absurd (not_both accepts.0.clouds accepts.0.blobs accepts.0.records found (one file (accepting accepts.0) (refused found) accepts.1 wrong))
 done one name before after (RefusedSecond found) ends ready calls = absurd ends
 done one name before after (Failed (Refused found)) ends ready calls = absurd ends

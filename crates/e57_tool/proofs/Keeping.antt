@@ -1,5 +1,5 @@
 -- A command that reads one file keeps its promise.
-use Rattle.std.proofs.Common.{◌≡◌, ℕ, List, Option, Some, None, inl, inr, refl, subst, ◌∙◌}
+use Rattle.std.proofs.Common.{◌≡◌, ℕ, List, Option, Some, None, inl, inr, refl, ◌∙◌}
 use Rattle.std.specs.Prelude.{IfSome, option_and_then}
 use Rattle.std.specs.FinMap.{get}
 use Rattle.e57_base.specs.Source.{Stock, SourceView}
@@ -13,14 +13,12 @@ use Rattle.e57_tool.specs.Ending.{status_of}
 use Rattle.e57_tool.specs.Outside.{Outside, outside, NoCallFails}
 use Rattle.e57_tool.specs.Run.{CallsSource, OneFile, IsDone, Keeps}
 use Rattle.e57_tool.specs.FileAnswer.{FileAnswer, PageRule, AnswersFile, ReadsFile, HasSoundFile, reading}
+use Rattle.e57_base.proofs.Told.{told_is}
 
 -- what is held is the stock's file
 pub held_file : (stock : Option Stock) (name file : List ℕ) (held : Option (List ℕ)) → option_and_then (λ files. get files name) stock ≡ Some file → IfSome stock (λ files. held ≡ get files name) → held ≡ Some file
 held_file None name file held has is = absurd cc
 held_file (Some files) name file held has is = is ∙ has
-
-pub held_is : (P : List ℕ → Type 0) (held : Option (List ℕ)) (file : List ℕ) → held ≡ Some file → IfSome held P → P file
-held_is P held file is h = subst (λ (x : Option (List ℕ)). IfSome x P) is h
 
 -- no file is sound and has a fault
 abbrev pub IsEither : FileAnswer → Type 0
@@ -32,7 +30,7 @@ done answer name before after RefusedOnOut either ends ready calls = absurd ends
 done answer name before after (RefusedSecond found) either ends ready calls = absurd ends
 done answer name before after (Failed (Refused found)) either ends ready calls =
     let held = held_file before.source.stock name ready.0 after.source.held ready.1 ends.file.held in
-    absurd (either ready.0 found ready.2 (held_is (λ file. answer.is_faulty file found) after.source.held ready.0 held ends.first))
+    absurd (either ready.0 found ready.2 (told_is (λ file. answer.is_faulty file found) after.source.held ready.0 held ends.first))
 done answer name before after (Failed Source) either ends ready calls = absurd (calls.source_calls ends.cause)
 done answer name before after (Failed Out) either ends ready calls = absurd (calls.out_calls ends.cause)
 done answer name before after (Failed Memory) either ends ready calls = inr (ends.takes, refl)

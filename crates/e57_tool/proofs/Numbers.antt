@@ -1,18 +1,15 @@
 -- The number that a word of decimal digits writes.
-use Rattle.std.proofs.Common.{◌≡◌, ℕ, cond, ◌^◌, ◌<◌, ◌≤◌, Bool, true, false, ◌&&◌, List, [], ◌∷◌, length, Option, Some, None, Result, Ok, Err, refl, sym, ap, ◌∙◌, arith}
+use Rattle.std.proofs.Common.{◌≡◌, ℕ, cond, ◌^◌, ◌<◌, ◌≤◌, Bool, true, false, ◌&&◌, List, length, Option, Some, None, Err, refl, arith}
 use Rattle.std.specs.Prelude.{nat_lt, nat_le}
 use Rattle.std.specs.List.{list_all}
 use Rattle.std.specs.Str.Parse.{digits_value, ParsesUnsigned}
 use Rattle.std.proofs.lemmas.Bool.Decides.{nat_tests}
 use Rattle.std.proofs.lemmas.Str.Parse.{IsDigitsTest, IsNumeralModel, numerals_by_value, parse_digits}
 use Rattle.e57_tool.specs.Cursor.{is_digit, number_of}
-
-both : (a b : Bool) → (a && b) ≡ true → (a ≡ true) × (b ≡ true)
-both true b e = (refl, e)
-both false b e = absurd cc
+use Rattle.std.proofs.lemmas.Bool.{and_parts}
 
 digit_range : (c : ℕ) → is_digit c ≡ true → (48 ≤ c) × (c ≤ 57)
-digit_range c e = let parts = both (nat_le 48 c) (nat_le c 57) e in let a = parts.0 in let b = parts.1 in (grind (arith, nat_tests), grind (arith, nat_tests))
+digit_range c e = let parts = and_parts (nat_le 48 c) (nat_le c 57) e in let a = parts.0 in let b = parts.1 in (grind (arith, nat_tests), grind (arith, nat_tests))
 
 range_digit : (c : ℕ) → 48 ≤ c → c ≤ 57 → is_digit c ≡ true
 range_digit c low high = grind (arith, nat_tests)
@@ -21,7 +18,7 @@ tells : IsDigitsTest (λ ds. list_all is_digit ds ≡ true)
 tells =
     record {
       empty = refl;
-      parts = λ c cs e. let k = both (is_digit c) (list_all is_digit cs) e in (digit_range c k.0, k.1);
+      parts = λ c cs e. let k = and_parts (is_digit c) (list_all is_digit cs) e in (digit_range c k.0, k.1);
       more = λ c cs k e. rw (range_digit c k.0 k.1, e) refl;
     }
 

@@ -1,10 +1,11 @@
 -- What pages `extract` asks for, with those of the opening, and that each of them is met for what is asked.
-use Rattle.std.proofs.Common.{◌≡◌, ℕ, ◌+◌, ◌*◌, ◌/◌, ◌<◌, ◌≤◌, min, max, Bool, true, false, List, [], ◌∷◌, ◌++◌, length, Option, Some, None, Result, Ok, Err, inl, inr, refl, sym, subst, ◌∙◌, arith, lit≤}
+use Rattle.std.proofs.Common.{◌≡◌, ℕ, ◌+◌, ◌*◌, ◌/◌, ◌<◌, ◌≤◌, min, max, List, [], ◌∷◌, ◌++◌, length, Option, Some, None, Result, Err, inl, inr, refl, sym, subst, ◌∙◌, arith, lit≤}
 use Rattle.std.specs.Prelude.{IfSome, MatchOption, IfErr, ◌⊎◌}
 use Rattle.std.specs.List.{AllByRecursion}
-use Rattle.e57_base.specs.Source.{SourceView, Asks, asks_on}
+use Rattle.e57_base.specs.Source.{SourceView, Asks}
+use Rattle.e57_base.proofs.SourceLaws.{asks_on}
 use Rattle.e57_base.specs.Sink.{SinkView}
-use Rattle.e57_base.specs.Told.{told_map, told_both, told_here}
+use Rattle.e57_base.proofs.Told.{told_map, told_both, told_here}
 use Rattle.e57_base.specs.declared.fault.Fault.{Fault}
 use Rattle.e57_base.specs.declared.fault.ReadFault.{ReadFault}
 use Rattle.e57_base.specs.declared.fault.ReadFault.TheVariants as read
@@ -13,30 +14,20 @@ use Rattle.e57_base.specs.declared.fault.RunFault.TheVariants.{Refused}
 use Rattle.e57_page.specs.declared.header.Header.{Header}
 use Rattle.e57_page.specs.Header.{header_of}
 use Rattle.e57_page.specs.Kept.{KeepsFirst}
-use Rattle.e57_page.specs.KeptLaws.{rises_from_unkept}
+use Rattle.e57_page.proofs.KeptLaws.{rises_from_unkept}
 use Rattle.e57_page.specs.Place.{RisesWithin, span_end}
-use Rattle.e57_page.specs.PlaceLaws.{rises_from_lower, rises_to_higher}
-use Rattle.e57_page.specs.File.{logical_size, opening_fault, length_fault}
+use Rattle.e57_page.proofs.PlaceLaws.{rises_from_lower, rises_to_higher}
+use Rattle.e57_page.specs.File.{logical_size, opening_fault}
 use Rattle.e57_page.specs.Opening.{IsOpenedFile, IsUnopenedFile, AsksAtMostForFirst}
 use Rattle.e57_page.specs.Pages.{Reading}
 use Rattle.e57_page.specs.XmlSection.{xml_start, xml_span_fault}
-use Rattle.e57_sections.specs.Met.{InXml}
 use Rattle.e57_show.specs.Opening.{IsPastPlace, JudgesPlaceFirst}
-use Rattle.e57_show.specs.Extract.{Asked, Selection, Selects, IsMetBy, AreRowsPages, AsksForRows}
+use Rattle.e57_show.specs.Extract.{Asked, IsMetBy, AreRowsPages, AsksForRows}
 use Rattle.e57_tool.specs.PagesAsked.{StopsAtOpening}
 use Rattle.e57_tool.specs.Extract.{IsMetFor, AreFileRowsPages, AsksForRowsPages}
 use Rattle.e57_tool.proofs.Asked.{told_always, stops_before, stops_at_first, goes_on}
 use Rattle.e57_tool.proofs.Showing.{few, place_told, no_place_fault, kept_first}
-
--- ---- each page is met
-
-all_append : (P : ℕ → Type 0) (xs ys : List ℕ) → AllByRecursion P xs → AllByRecursion P ys → AllByRecursion P (xs ++ ys)
-all_append P [] ys left right = right
-all_append P (x ∷ xs) ys left right = (left.0, all_append P xs ys left.1 right)
-
-all_map : (P Q : ℕ → Type 0) (xs : List ℕ) → ((x : ℕ) → P x → Q x) → AllByRecursion P xs → AllByRecursion Q xs
-all_map P Q [] f all = tt
-all_map P Q (x ∷ xs) f all = (f x all.0, all_map P Q xs f all.1)
+use Rattle.e57_base.proofs.Lists.{all_append, all_map}
 
 risen : (low high : ℕ) (pages : List ℕ) → RisesWithin low high pages → AllByRecursion (λ (p : ℕ). (low ≤ p) × (p < high)) pages
 risen low high [] rises = tt

@@ -3,8 +3,9 @@ use Rattle.std.proofs.Common.{◌≡◌, ℕ, zero, suc, ◌+◌, ◌/◌, ◌�
 use Rattle.std.specs.Prelude.{IfSome}
 use Rattle.std.specs.List.{range_with_len}
 use Rattle.std.specs.Option.{option_or}
-use Rattle.e57_base.specs.Count.{rose_before}
-use Rattle.e57_base.specs.Source.{SourceView, Asks, asks_on}
+use Rattle.e57_base.proofs.CountLaws.{rose_before}
+use Rattle.e57_base.specs.Source.{SourceView, Asks}
+use Rattle.e57_base.proofs.SourceLaws.{asks_on}
 use Rattle.e57_base.specs.Sink.{SinkView}
 use Rattle.e57_base.specs.declared.fault.Fault.{Fault}
 use Rattle.e57_base.specs.Fault.{read_as_run}
@@ -14,31 +15,29 @@ use Rattle.e57_base.specs.declared.fault.RunFault.TheVariants.{Refused, Source}
 use Rattle.e57_page.specs.declared.header.Header.{Header}
 use Rattle.e57_page.specs.Header.{header_fault, header_of}
 use Rattle.e57_page.specs.File.{length_fault, page_fault, pages_fault, opening_fault}
-use Rattle.e57_page.specs.FileLaws.{pages_fault-found, pages_fault-zero, whole_length}
+use Rattle.e57_page.proofs.FileLaws.{pages_fault-found, pages_fault-zero, whole_length}
 use Rattle.e57_page.specs.Pages.{AsksFor, IsScanned, IsScannedTo, is_opening_kind}
-use Rattle.e57_base.specs.Told.{told_map, told_both, told_here}
+use Rattle.e57_base.proofs.Told.{told_map, told_both, told_here}
 use Rattle.e57_tool.specs.declared.ending.Ending.TheVariants.{Failed}
 use Rattle.e57_tool.specs.Lines.{pages_line}
-use Rattle.e57_base.specs.Opening.{OpensOnce, IsOpen, opens_later, open_later}
+use Rattle.e57_base.specs.Opening.{OpensOnce, IsOpen}
+use Rattle.e57_base.proofs.OpeningLaws.{opens_later, open_later}
 use Rattle.e57_page.specs.Opening.{IsOpenedFile, IsUnopenedFile, AsksAtMostForFirst}
 use Rattle.e57_tool.specs.PagesAsked.{StopsAtOpening}
 use Rattle.e57_tool.specs.FileAnswer.{ReadsFile}
 use Rattle.e57_tool.specs.Pages.{pages_verdict, IsPagesOutput, pages_answer, page_order, AsksInOrder}
 use Rattle.e57_tool.proofs.Asked.{stops_before, stops_at_first, goes_on}
+use Rattle.e57_base.proofs.Options.{option_or_parts}
 
 -- no file has a fault and none
 pub is_either : (file : List ℕ) (found : Fault) → pages_verdict file ≡ None → pages_verdict file ≡ Some found → ⊥
 is_either file found sound fault = cc
 
-none_both : (a b : Option Fault) → option_or a b ≡ None → (a ≡ None) × (b ≡ None)
-none_both None b e = (refl, e)
-none_both (Some x) b e = absurd cc
-
 -- where the opening has no fault, the verdict is that of the pages
 verdict_is : (file : List ℕ) (outcome : Option Fault) → opening_fault file ≡ None → pages_fault file 0 (length file / 1024) ≡ outcome → pages_verdict file ≡ outcome
 verdict_is file outcome opens pages =
-    let a = none_both (length_fault (length file)) (option_or (header_fault file (length file)) (page_fault file 0)) opens in
-    let b = none_both (header_fault file (length file)) (page_fault file 0) a.1 in
+    let a = option_or_parts (length_fault (length file)) (option_or (header_fault file (length file)) (page_fault file 0)) opens in
+    let b = option_or_parts (header_fault file (length file)) (page_fault file 0) a.1 in
     rw (a.0, b.0) pages
 
 by_page : (b c d : Option Fault) (found : Fault) → (c ≡ Some found → d ≡ Some found) → option_or b c ≡ Some found → option_or b d ≡ Some found

@@ -1,12 +1,14 @@
 -- How a command ends that opens a file and shows it, from what opening the file and showing it found.
 use Rattle.std.proofs.Common.{◌≡◌, ℕ, ◌*◌, ◌/◌, ◌<◌, ◌≤◌, min, max, Bool, true, false, ◌||◌, List, [], ◌∷◌, length, Option, Some, None, Result, Err, inl, inr, refl, sym, subst, ◌∙◌, arith, lit≤}
 use Rattle.std.specs.Prelude.{IfSome, MatchOption, IfErr}
-use Rattle.e57_base.specs.Count.{rose_before}
+use Rattle.e57_base.proofs.CountLaws.{rose_before}
 use Rattle.e57_base.specs.Fault.{read_as_run}
-use Rattle.e57_base.specs.Source.{SourceView, Asks, asks_on}
+use Rattle.e57_base.specs.Source.{SourceView, Asks}
+use Rattle.e57_base.proofs.SourceLaws.{asks_on}
 use Rattle.e57_base.specs.Sink.{SinkView}
-use Rattle.e57_base.specs.Told.{told_map, told_both, told_here}
-use Rattle.e57_base.specs.Opening.{OpensOnce, IsOpen, opens_later, open_later}
+use Rattle.e57_base.proofs.Told.{told_map, told_both, told_here}
+use Rattle.e57_base.specs.Opening.{OpensOnce, IsOpen}
+use Rattle.e57_base.proofs.OpeningLaws.{opens_later, open_later}
 use Rattle.e57_base.specs.declared.fault.Fault.{Fault}
 use Rattle.e57_base.specs.declared.fault.ReadFault.{ReadFault}
 use Rattle.e57_base.specs.declared.fault.ReadFault.TheVariants as read
@@ -16,11 +18,11 @@ use Rattle.e57_page.specs.declared.header.Header.{Header}
 use Rattle.e57_page.specs.Header.{header_of}
 use Rattle.e57_page.specs.Kept.{is_kept, KeepsFirst}
 use Rattle.e57_page.specs.Place.{RisesWithin, span_end}
-use Rattle.e57_page.specs.PlaceLaws.{rises_from_lower, rises_to_higher}
+use Rattle.e57_page.proofs.PlaceLaws.{rises_from_lower, rises_to_higher}
 use Rattle.e57_page.specs.File.{logical_size, opening_fault}
 use Rattle.e57_page.specs.Opening.{IsOpenedFile, IsUnopenedFile, AsksAtMostForFirst}
 use Rattle.e57_page.specs.Pages.{Reading, AsksFor, AsksUnkept, is_opening_kind}
-use Rattle.e57_page.specs.PagesLaws.{asks_unkept_from}
+use Rattle.e57_page.proofs.PagesLaws.{asks_unkept_from}
 use Rattle.e57_page.specs.XmlSection.{xml_start, xml_span_fault}
 use Rattle.e57_file.specs.Text.{AsksForXml}
 use Rattle.e57_show.specs.Showing.{Shown, ShowEnds, ShowsText, HasNoFault}

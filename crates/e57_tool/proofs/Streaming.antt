@@ -1,14 +1,13 @@
 -- A command that puts its output in pieces: how it ends, from what opening the file and putting found, and that it keeps its
 -- promise.
-use Rattle.std.proofs.Common.{◌≡◌, ℕ, ◌*◌, ◌/◌, ◌<◌, ◌≤◌, min, max, Bool, true, false, List, [], ◌∷◌, ◌++◌, length, Option, Some, None, Result, Ok, Err, inl, inr, refl, sym, subst, ◌∙◌, arith, lit≤}
-use Rattle.std.specs.Prelude.{IfSome, MatchOption, IfErr}
-use Rattle.e57_base.specs.Count.{rose_before}
+use Rattle.std.proofs.Common.{◌≡◌, ℕ, ◌*◌, ◌/◌, Bool, true, false, List, Option, Some, None, inl, inr, refl, ◌∙◌}
+use Rattle.e57_base.proofs.CountLaws.{rose_before}
 use Rattle.e57_base.specs.Fault.{read_as_run}
-use Rattle.e57_base.specs.Source.{SourceView, Asks, asks_on}
+use Rattle.e57_base.specs.Source.{SourceView}
 use Rattle.e57_base.specs.Target.{TargetView}
 use Rattle.e57_base.specs.Sink.{SinkView}
-use Rattle.e57_base.specs.Told.{told_map, told_both, told_here}
-use Rattle.e57_base.specs.Opening.{OpensOnce, IsOpen, opens_later, open_later}
+use Rattle.e57_base.proofs.Told.{told_map, told_both, told_here, told_is}
+use Rattle.e57_base.proofs.OpeningLaws.{opens_later, open_later}
 use Rattle.e57_base.specs.declared.fault.Fault.{Fault}
 use Rattle.e57_base.specs.declared.fault.ReadFault.{ReadFault}
 use Rattle.e57_base.specs.declared.fault.ReadFault.TheVariants as read
@@ -16,7 +15,7 @@ use Rattle.e57_base.specs.declared.fault.RunFault.{RunFault}
 use Rattle.e57_base.specs.declared.fault.RunFault.TheVariants.{Refused, Source, Out, Memory, Ask}
 use Rattle.e57_page.specs.declared.header.Header.{Header}
 use Rattle.e57_page.specs.Header.{header_of}
-use Rattle.e57_page.specs.File.{logical_size, opening_fault, length_fault}
+use Rattle.e57_page.specs.File.{logical_size, opening_fault}
 use Rattle.e57_page.specs.Opening.{IsOpenedFile, IsUnopenedFile}
 use Rattle.e57_page.specs.Pages.{AsksFor}
 use Rattle.e57_page.specs.XmlSection.{xml_span_fault}
@@ -29,8 +28,9 @@ use Rattle.e57_tool.specs.Run.{CallsSource, OneFile, IsDone, Keeps}
 use Rattle.e57_tool.specs.FileAnswer.{PageRule}
 use Rattle.e57_tool.specs.Show.{HasTextPlace}
 use Rattle.e57_tool.specs.InPieces.{IsEarlyFault, IsWholeFile, OpensFile, AnswersInPieces, HasWholeFile, StreamsFile, streaming}
-use Rattle.e57_tool.proofs.Keeping.{held_file, held_is}
+use Rattle.e57_tool.proofs.Keeping.{held_file}
 use Rattle.e57_tool.proofs.Showing.{place_told}
+use Rattle.e57_base.proofs.Options.{none_and_some}
 
 -- ---- the promise is kept
 
@@ -44,16 +44,16 @@ done streamed name before after RefusedOnOut ends ready calls = absurd ends
 done streamed name before after (RefusedSecond found) ends ready calls = absurd ends
 done streamed name before after (Failed (Refused found)) (inl ends) ready calls =
     let held = held_file before.source.stock name ready.0 after.source.held ready.1 ends.source.file.held in
-    absurd (not_early streamed ready.0 found ready.2 (held_is (λ file. IsEarlyFault streamed file found) after.source.held ready.0 held ends.first))
+    absurd (not_early streamed ready.0 found ready.2 (told_is (λ file. IsEarlyFault streamed file found) after.source.held ready.0 held ends.first))
 done streamed name before after (Failed (Refused found)) (inr ends) ready calls =
     let held = held_file before.source.stock name ready.0 after.source.held ready.1 ends.source.file.held in
-    absurd (ready.2.whole.late found (held_is (λ file. streamed.is_late file found) after.source.held ready.0 held ends.first))
+    absurd (ready.2.whole.late found (told_is (λ file. streamed.is_late file found) after.source.held ready.0 held ends.first))
 done streamed name before after (Failed Source) ends ready calls = absurd (calls.source_calls ends.cause)
 done streamed name before after (Failed Out) ends ready calls = absurd (calls.out_calls ends.cause)
 done streamed name before after (Failed Memory) ends ready calls = inr (refl, refl)
 done streamed name before after (Failed (Ask why)) ends ready calls =
     let held = held_file before.source.stock name ready.0 after.source.held ready.1 ends.source.file.held in
-    absurd (ready.2.whole.there why (held_is (λ file. streamed.is_short file why) after.source.held ready.0 held ends.short))
+    absurd (ready.2.whole.there why (told_is (λ file. streamed.is_short file why) after.source.held ready.0 held ends.short))
 
 opened : {S : Type 0} (streamed : Streamed) (name : List ℕ) (source source' : S) (old new : SourceView) (out out' : SinkView) (ending : Ending) → AnswersInPieces streamed name old new out out' ending → CallsSource OneFile source source' old new (status_of ending)
 opened streamed name source source' old new out out' Done ends = (ends.source.opens.opened, λ tells. ends.source.file.size)
@@ -109,16 +109,13 @@ pub opens_file : (name : List ℕ) (old mid new : SourceView) (size : ℕ) (head
 opens_file name old mid new size header pages opened asks =
     record { opens = opens_later opened.opens asks.same asks.faults; file = open_later old mid new name opened.file asks.same }
 
-none_some : (o : Option Fault) (found : Fault) → o ≡ None → o ≡ Some found → ⊥
-none_some o found none some = cc
-
 -- all was put
 pub completed : (streamed : Streamed) (name : List ℕ) (old mid new : SourceView) (size : ℕ) (header : Header) (pages : List ℕ) (out out' : SinkView) → IsOpenedFile name old size header mid → AsksFor mid pages new → StreamEnds streamed mid new out out' None → AnswersInPieces streamed name old new out out' Done
 completed streamed name old mid new size header pages out out' opened asks ends =
     record {
       source = opens_file name old mid new size header pages opened asks;
       sound = told_here (IsWholeFile streamed) mid.held new.held asks.same.held
-          (told_both (λ file. opening_fault file ≡ None) (IsWhole streamed) (IsWholeFile streamed) mid.held (λ file sound whole. record { opening = λ found some. none_some (opening_fault file) found sound some; whole = whole }) opened.sound ends.0);
+          (told_both (λ file. opening_fault file ≡ None) (IsWhole streamed) (IsWholeFile streamed) mid.held (λ file sound whole. record { opening = λ found some. none_and_some (opening_fault file) found sound some; whole = whole }) opened.sound ends.0);
       wrote = all_here streamed mid.held new.held out out' asks.same.held ends.1;
     }
 

@@ -1,13 +1,12 @@
 -- `extract FILE CLOUD`: the file is opened, and rows of its records are put.
-use Rattle.std.specs.Prelude.{◌≡◌, ◌⊎◌, ℕ, ◌/◌, ◌≤◌, max, List, [], ◌∷◌, ◌++◌, length, Some, None, IfSome}
+use Rattle.std.specs.Prelude.{◌≡◌, ◌⊎◌, ℕ, ◌/◌, ◌≤◌, max, List, [], ◌∷◌, ◌++◌, length, IfSome}
 use Rattle.std.specs.List.{AllByRecursion}
 use Rattle.e57_base.specs.Source.{SourceView, Asks, page_length}
-use Rattle.e57_page.specs.declared.header.Header.{Header}
 use Rattle.e57_page.specs.Place.{payload_length, RisesWithin, span_end}
 use Rattle.e57_page.specs.Header.{header_of}
 use Rattle.e57_page.specs.File.{logical_size}
 use Rattle.e57_page.specs.XmlSection.{xml_start, xml_span_fault}
-use Rattle.e57_sections.specs.Met.{InXml, InMet}
+use Rattle.e57_cloud.specs.Met.{InXml, InMet}
 use Rattle.e57_show.specs.Extract.{Asked, Selection, Selects, stated, AreRowsPages, rows_streamed}
 use Rattle.e57_tool.specs.PagesAsked.{StopsAtOpening}
 use Rattle.e57_tool.specs.FileAnswer.{PageRule}

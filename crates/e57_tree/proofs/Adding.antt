@@ -10,7 +10,7 @@ use Rattle.e57_nodes.specs.Paths.{child_path}
 use Rattle.e57_nodes.specs.Fields.{fields_from, fields_from_all}
 use Rattle.e57_tree.specs.Flat.{raw_at, shapes_between, end_of, shape_in, AreElements}
 use Rattle.e57_tree.specs.Paths.{named_path}
-use Rattle.e57_tree.specs.Laws.Flat.{next_element, shapes_between-end}
+use Rattle.e57_tree.proofs.Laws.Flat.{next_element, shapes_between-end}
 use Rattle.e57_tree.proofs.Children.{name_in}
 
 -- the fields of the children from this one on

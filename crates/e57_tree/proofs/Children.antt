@@ -8,7 +8,7 @@ use Rattle.e57_nodes.specs.Shape.{Node, children_from}
 use Rattle.e57_nodes.specs.Fields.{child_named}
 use Rattle.e57_nodes.specs.Typed.{is_misplaced}
 use Rattle.e57_tree.specs.Flat.{raw_at, facts_in, shapes_between, end_of, node_in, AreElements, is_other}
-use Rattle.e57_tree.specs.Laws.Flat.{next_element, shapes_between-end}
+use Rattle.e57_tree.proofs.Laws.Flat.{next_element, shapes_between-end}
 
 abbrev pub children_at : List RawNode → ℕ → ℕ → List Node
 children_at nodes n end = children_from n (shapes_between nodes n end)

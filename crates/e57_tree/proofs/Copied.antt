@@ -1,16 +1,15 @@
 -- Attributes and nodes that are copied one after another.
-use Rattle.std.proofs.Common.{◌≡◌, ℕ, suc, ◌+◌, ◌^◌, ◌<◌, ◌≤◌, Bool, true, false, cond, ◌||◌, List, [], ◌∷◌, ◌++◌, length, map, get_or, drop, Some, slice_get, refl, sym, ap, ◌∙◌, arith, append_assoc}
+use Rattle.std.proofs.Common.{◌≡◌, ℕ, suc, ◌+◌, ◌^◌, ◌<◌, ◌≤◌, Bool, true, false, cond, ◌||◌, List, [], ◌∷◌, ◌++◌, length, map, get_or, drop, Some, slice_get, refl, sym, ap, ◌∙◌, arith, append_assoc, Fits, w64, None}
 use Rattle.std.specs.Prelude.{unwrap_or, option_and_then}
-use Rattle.std.proofs.Common.{Fits, w64, None}
 use Rattle.std.specs.Fmt.{decimal}
 use Rattle.std.specs.List.{AllByRecursion, filter_map, cons_option}
 use Rattle.std.proofs.lemmas.List.{append-nil, drop-drop}
 use Rattle.e57_pieces.specs.declared.piece.Attr.{Attr}
 use Rattle.e57_elements.specs.declared.tree.RawNode.{RawNode}
 use Rattle.e57_elements.specs.Lawful.{AreNodes}
-use Rattle.e57_nodes.specs.Places.{is_cloud_or_blob, place_name, stated_place, with_value, with_places}
+use Rattle.e57_nodes.specs.Places.{is_cloud_or_blob, place_name, stated_place, with_value, with_places, item_count, placed_node, texts_after, placed_nodes}
 use Rattle.e57_nodes.specs.Facts.{value_of, unsigned_in}
-use Rattle.e57_nodes.specs.Laws.Places.{item_count, placed_node, texts_after, placed_nodes, preorder-with_places, IsLawful-with_places, AreTexts-decimals}
+use Rattle.e57_nodes.proofs.Laws.Places.{preorder-with_places, IsLawful-with_places, AreTexts-decimals}
 use Rattle.e57_tree.specs.Copies.{section_count, is_place, next_attr}
 use Rattle.e57_tree.proofs.Lists.{drop-here, drop-all}
 

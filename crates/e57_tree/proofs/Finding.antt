@@ -15,7 +15,7 @@ use Rattle.e57_nodes.specs.Items.{StatedItem, stated_by, stated_item, stated_ite
 use Rattle.e57_tree.specs.declared.found.Found.{Found}
 use Rattle.e57_tree.specs.Flat.{no_node, raw_at, node_in, AreElements}
 use Rattle.e57_tree.specs.Held.{clouds_among, blobs_among, items_among, fields_among, Holds, place_at, AddsCloud, AddsBlob, AddsNode}
-use Rattle.e57_tree.specs.Laws.Flat.{shapes_between-is}
+use Rattle.e57_tree.proofs.Laws.Flat.{shapes_between-is}
 use Rattle.e57_tree.proofs.Lists.{drop-here, drop-all}
 use Rattle.e57_tree.proofs.Rows.{row, row_first, row_none, below_in_row}
 use Rattle.e57_tree.proofs.Children.{type_read}

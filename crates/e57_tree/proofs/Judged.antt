@@ -16,7 +16,7 @@ use Rattle.e57_tree.specs.declared.names.Names.{Names}
 use Rattle.e57_tree.specs.Names.{number_of}
 use Rattle.e57_tree.specs.Judged.{IsJudged, namesake_in, NotesChild}
 use Rattle.e57_tree.specs.Flat.{raw_at, facts_in, shapes_between, end_of, node_in, shape_in, AreElements}
-use Rattle.e57_tree.specs.Laws.Flat.{next_element, shapes_between-end}
+use Rattle.e57_tree.proofs.Laws.Flat.{next_element, shapes_between-end}
 use Rattle.e57_tree.proofs.Children.{name_in, type_read}
 
 -- the names are those of these children, where names differ

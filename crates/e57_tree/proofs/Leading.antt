@@ -8,7 +8,7 @@ use Rattle.e57_nodes.specs.Shape.{Shape, shape, Shapes, no_shapes, shapes, shape
 use Rattle.e57_nodes.specs.Paths.{counts_children, child_path, paths_from, paths_from_all, path_of}
 use Rattle.e57_tree.specs.Flat.{raw_at, facts_in, shapes_between, end_of, shape_in, AreElements}
 use Rattle.e57_tree.specs.Paths.{named_path, path_in, LeadsTo}
-use Rattle.e57_tree.specs.Laws.Flat.{next_element, node_inside, shape_in-root, node_count-shape_of}
+use Rattle.e57_tree.proofs.Laws.Flat.{next_element, node_inside, shape_in-root, node_count-shape_of}
 use Rattle.e57_tree.proofs.Children.{name_in}
 
 -- ---- as many paths as nodes

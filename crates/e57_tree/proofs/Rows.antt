@@ -13,7 +13,7 @@ use Rattle.e57_nodes.specs.Shape.{Shape, shape, Shapes, no_shapes, shapes, node_
 use Rattle.e57_nodes.specs.Paths.{counts_children, child_path}
 use Rattle.e57_nodes.specs.Fields.{kind_of, field_at, fields_from, fields_from_all}
 use Rattle.e57_tree.specs.Flat.{raw_at, facts_in, shapes_between, end_of, node_in, AreElements, has_section_node, is_field_type}
-use Rattle.e57_tree.specs.Laws.Flat.{IsNext, next_element, shapes_between-end}
+use Rattle.e57_tree.proofs.Laws.Flat.{IsNext, next_element, shapes_between-end}
 
 -- k nodes, the first with this number
 abbrev pub row : List RawNode → ℕ → ℕ → List Node

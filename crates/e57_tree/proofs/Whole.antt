@@ -11,14 +11,14 @@ use Rattle.e57_layout.specs.declared.field.FieldKind.{FieldKind}
 use Rattle.e57_layout.specs.declared.field.FieldKind.TheVariants.{Int, Scaled, Bits32, Bits64, Text}
 use Rattle.e57_layout.specs.declared.field.Fixed.{Fixed}
 use Rattle.e57_layout.specs.Values.{item_kind, IsValidField}
-use Rattle.e57_sections.specs.Cloud.{float_from}
+use Rattle.e57_cloud.specs.Cloud.{float_from}
 use Rattle.e57_nodes.specs.Shape.{shape_of, node_count}
 use Rattle.e57_nodes.specs.Paths.{path_of}
-use Rattle.e57_nodes.specs.Places.{places_in, with_places}
+use Rattle.e57_nodes.specs.Places.{places_in, with_places, item_count, placed_nodes}
 use Rattle.e57_nodes.specs.Items.{StatedItem, stated_cloud, stated_blob, stated_items, leaves_of}
-use Rattle.e57_nodes.specs.Laws.Places.{item_count, placed_nodes, preorder-with_places}
-use Rattle.e57_nodes.specs.Laws.Sound.{IsSoundField, IsSoundItem, sound_items}
-use Rattle.e57_nodes.specs.Laws.Stated.{length-stated_items}
+use Rattle.e57_nodes.proofs.Laws.Places.{preorder-with_places}
+use Rattle.e57_nodes.proofs.Laws.Sound.{IsSoundField, IsSoundItem, sound_items}
+use Rattle.e57_nodes.proofs.Laws.Stated.{length-stated_items}
 use Rattle.e57_tree.specs.declared.found.Found.{Found}
 use Rattle.e57_tree.specs.Held.{clouds_among, fields_among, items_among, clouds_of, items_of, cloud_fields, AreCloudFields, IsTree, float_bytes}
 use Rattle.e57_tree.specs.Paths.{path_in}
@@ -26,7 +26,7 @@ use Rattle.e57_tree.proofs.Leading.{path_in-root}
 use Rattle.e57_tree.proofs.Lists.{drop-here, drop-all}
 use Rattle.e57_nodes.specs.Typed.{tree_fault, typed_fault}
 use Rattle.e57_tree.specs.Flat.{shape_in}
-use Rattle.e57_tree.specs.Laws.Flat.{shape_in-root}
+use Rattle.e57_tree.proofs.Laws.Flat.{shape_in-root}
 use Rattle.e57_tree.specs.Judged.{IsJudged}
 use Rattle.e57_tree.proofs.Judged.{carried}
 

@@ -1,5 +1,5 @@
 -- The clouds and blobs of a tree, as its calls give them.
-use Rattle.std.specs.Prelude.{◌≡◌, ℕ, ◌+◌, ◌/◌, ◌<◌, ◌≤◌, List, [], ◌∷◌, ◌++◌, length, Option, Some, None, slice_get, unwrap_or, option_and_then}
+use Rattle.std.specs.Prelude.{◌≡◌, ℕ, ◌+◌, ◌/◌, ◌<◌, ◌≤◌, List, [], ◌∷◌, ◌++◌, length, Option, Some, None, slice_get, unwrap_or, option_and_then, slice_index_or}
 use Rattle.std.specs.List.{AllByRecursion}
 use Rattle.e57_elements.specs.declared.tree.RawNode.{RawNode}
 use Rattle.e57_elements.specs.Tree.{Element, preorder}
@@ -7,7 +7,7 @@ use Rattle.e57_elements.specs.Lawful.{AreNodes}
 use Rattle.e57_layout.specs.declared.field.Field.{Field}
 use Rattle.e57_layout.specs.declared.field.Fixed.{Fixed}
 use Rattle.e57_layout.specs.Values.{ItemKind, integers, words, strings, IsValidField}
-use Rattle.e57_sections.specs.Cloud.{float_from}
+use Rattle.e57_cloud.specs.Cloud.{float_from}
 use Rattle.e57_nodes.specs.declared.ElementType.{ElementType}
 use Rattle.e57_nodes.specs.declared.ElementType.TheVariants as element_type
 use Rattle.e57_nodes.specs.Facts.{value_of, unsigned_in}
@@ -62,6 +62,23 @@ items_of e = items_among 0 0 (stated_items (shape_of e))
 
 abbrev pub cloud_fields : Element → List (List Field)
 cloud_fields e = fields_among (stated_items (shape_of e))
+
+-- ---- one of them by its number
+
+abbrev pub no_cloud : Cloud
+no_cloud = record { node = 0; place = 0; count = 0 }
+
+abbrev pub no_blob : Blob
+no_blob = record { node = 0; place = 0; length = 0 }
+
+abbrev pub cloud_in : Element → ℕ → Cloud
+cloud_in e k = slice_index_or (clouds_of e) k no_cloud
+
+abbrev pub blob_in : Element → ℕ → Blob
+blob_in e k = slice_index_or (blobs_of e) k no_blob
+
+abbrev pub fields_in : Element → ℕ → List Field
+fields_in e k = slice_index_or (cloud_fields e) k []
 
 -- 1 to 512 fields, each valid.
 pub record AreCloudFields (fields : List Field) : Type 0 where

@@ -5,4 +5,3 @@ pub mod Judged
 pub mod Paths
 pub mod Copies
 pub mod Held
-pub mod Laws

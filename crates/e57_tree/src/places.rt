@@ -2,8 +2,7 @@
 
 ghost use Rattle.std.specs.Prelude.{◌≡◌, ◌+◌, ◌≤◌, ◌||◌, drop, length, map, IfOk};
 ghost use Rattle.std.specs.Fmt.{decimal};
-ghost use Rattle.e57_nodes.specs.Places.{place_name, with_value};
-ghost use Rattle.e57_nodes.specs.Laws.Places.{item_count, placed_node, placed_nodes};
+ghost use Rattle.e57_nodes.specs.Places.{place_name, with_value, item_count, placed_node, placed_nodes};
 ghost use Rattle.e57_tree.specs.Copies.{is_place, next_attr, section_count};
 
 use crate::attributes::element_type;

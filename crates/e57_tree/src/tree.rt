@@ -9,7 +9,7 @@ ghost use Rattle.e57_nodes.specs.Shape.{shape_of};
 ghost use Rattle.e57_nodes.specs.Paths.{path_of};
 ghost use Rattle.e57_nodes.specs.Places.{with_places};
 ghost use Rattle.e57_nodes.specs.Items.{leaves_of};
-ghost use Rattle.e57_sections.specs.Cloud.{float_from};
+ghost use Rattle.e57_cloud.specs.Cloud.{float_from};
 ghost use Rattle.e57_nodes.specs.Typed.{max_fields, typed_fault};
 ghost use Rattle.e57_tree.specs.Judged.{IsJudged};
 ghost use Rattle.e57_tree.specs.Held.{blobs_of, cloud_fields, clouds_of, float_bytes, items_of, AreCloudFields, IsFixed};
@@ -128,7 +128,7 @@ impl Tree {
 }
 
 /// The first Float field, with the bytes of an item.
-#[tactic(auto, unfolding(e57_sections::specs::Cloud::float_from))]
+#[tactic(auto, unfolding(e57_cloud::specs::Cloud::float_from))]
 fn fixed_of(fields: &[Field]) -> Option<Fixed>
     requires { length fields.now ≤ max_fields }
     ensures { result ≡ float_from 0 (leaves_of fields.now) }

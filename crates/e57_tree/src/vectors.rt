@@ -5,7 +5,7 @@ ghost use Rattle.std.specs.Option.{option_map, ForSome};
 ghost use Rattle.e57_nodes.specs.declared.ElementType.TheVariants.{CompressedVector};
 ghost use Rattle.e57_nodes.specs.Shape.{children_of, nodes_below};
 ghost use Rattle.e57_nodes.specs.Fields.{child_named, fields_below};
-ghost use Rattle.e57_nodes.specs.Typed.{codecs_fault, compressed_vector_fault, field_count_fault, fields_fault, is_structure, prototype_fault, record_limit_fault};
+ghost use Rattle.e57_nodes.specs.Typed.{codecs_fault, compressed_vector_fault, field_count_fault, prototype_fields_fault, is_structure, prototype_fault, record_limit_fault};
 ghost use Rattle.e57_nodes.specs.Places.{has_section};
 ghost use Rattle.e57_tree.specs.Flat.{facts_in, has_section_node, is_field_type, node_in};
 
@@ -34,7 +34,7 @@ pub fn vector_fault(raw: &RawTree, n: usize) -> Option<Fault>
     if let Some(found) = codecs_fault(raw, n) {
         return Some(found);
     }
-    fields_fault(raw, n)
+    prototype_fields_fault(raw, n)
 }
 
 /// The fault of a number of records above 2^40.
@@ -50,9 +50,9 @@ fn record_limit_fault(n: usize, node: &RawNode) -> Option<Fault>
 }
 
 /// The first fault of the prototype and of the number of fields.
-fn fields_fault(raw: &RawTree, n: usize) -> Option<Fault>
+fn prototype_fields_fault(raw: &RawTree, n: usize) -> Option<Fault>
     requires { n < length raw.now }
-    ensures { result ≡ fields_fault (node_in raw.now n) }
+    ensures { result ≡ prototype_fields_fault (node_in raw.now n) }
 {
     let prototype = child_named(raw, n, b"prototype".as_slice());
     if let Some(found) = prototype_fault(raw, n, prototype) {

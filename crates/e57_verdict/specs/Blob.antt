@@ -8,7 +8,7 @@ use Rattle.e57_base.specs.declared.kind.Kind.TheVariants.{BlobPlace, BlobId}
 use Rattle.e57_layout.specs.Headers.{blob_head_at}
 use Rattle.e57_page.specs.Place.{place}
 use Rattle.e57_page.specs.File.{logical, logical_size, span_fault}
-use Rattle.e57_sections.specs.Section.{when, or_zero}
+use Rattle.e57_cloud.specs.Section.{when, or_zero}
 
 -- how many bytes the header of a blob section has
 abbrev pub blob_header_length : ℕ

@@ -2,4 +2,3 @@ pub mod Blob
 pub mod Things
 pub mod Verdict
 pub mod Content
-pub mod Laws

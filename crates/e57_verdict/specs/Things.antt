@@ -3,7 +3,7 @@ use Rattle.std.specs.Prelude.{ℕ, ◌+◌, List, [], ◌∷◌, Option, None}
 use Rattle.std.specs.Option.{option_or}
 use Rattle.e57_base.specs.declared.fault.Fault.{Fault}
 use Rattle.e57_layout.specs.Values.{Value}
-use Rattle.e57_sections.specs.Cloud.{Cloud, cloud_fault, records_of}
+use Rattle.e57_cloud.specs.Cloud.{Cloud, cloud_fault, records_of}
 use Rattle.e57_elements.specs.Tree.{Element}
 use Rattle.e57_nodes.specs.Shape.{shape_of}
 use Rattle.e57_nodes.specs.Items.{StatedItem, stated_cloud, stated_blob, stated_items, leaves_of}

@@ -27,13 +27,13 @@ fault_before_text file =
     (option_or (all_pages_fault file) (xml_span_fault (header_of file) (logical_size file))))
 
 -- the text of the XML section
-abbrev pub text_of : List ℕ → List ℕ
-text_of file = xml_text (header_of file) file
+abbrev pub xml_text_of : List ℕ → List ℕ
+xml_text_of file = xml_text (header_of file) file
 
 -- There is no fault before the text, and it spells this lawful tree.
 pub record HasTree (file : List ℕ) (tree : Element) : Type 0 where
   pub sound : fault_before_text file ≡ None
-  pub spells : Spells (text_of file) tree
+  pub spells : Spells (xml_text_of file) tree
   pub is_lawful : IsLawful tree
 
 -- The first fault behind the text: of the nodes, and then of each cloud and blob in document order.
@@ -49,7 +49,7 @@ pub record IsSoundFile (file : List ℕ) (tree : Element) : Type 0 where
 abbrev pub IsFileFault : List ℕ → Fault → Type 0
 IsFileFault file found =
     (fault_before_text file ≡ Some found)
-    ⊎ ((fault_before_text file ≡ None) × IsFirstFault (text_of file) found)
+    ⊎ ((fault_before_text file ≡ None) × IsFirstFault (xml_text_of file) found)
     ⊎ ((tree : Element) × HasTree file tree × (fault_behind_text file tree ≡ Some found))
 
 -- A file is accepted, with the numbers of its clouds, of its blobs and of all records; or it is refused for its first fault.

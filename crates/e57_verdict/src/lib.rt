@@ -2,6 +2,6 @@
 //! them here.
 #![tactic(auto)]
 
-mod laws;
+mod theorems;
 
-pub use laws::{one_content, one_verdict, opening_agrees};
+pub use theorems::{one_content, one_verdict, opening_agrees};

@@ -1,8 +1,9 @@
 use Rattle.std.proofs.Common.{ℕ, ◌≡◌, ◌-◌, ◌/◌, ◌∙◌, length, refl, subst, arith}
 use Rattle.e57_check.specs.Judging.{ReadsBlock}
 use Rattle.e57_layout.specs.Values.{strings}
-use Rattle.e57_check.proofs.Judged.{block-none, block-on, block-lost, lies-later, kind-later, count-later, less-left, same-on}
+use Rattle.e57_check.proofs.Judged.{block-none, block-on, block-lost, lies-later, kind-later, count-later, less-left}
 use Rattle.e57_check.proofs.block.read_texts.Goals as goal
+use Rattle.e57_column.proofs.Joining.{field-on}
 
 pub loop-done-init : goal.loop-done-init
 loop-done-init g c = (omega arith, block-none (c.args.pages.now.length / 1024) (g.S.Source.view c.args.pages.now.source) c.args.column.now c.args.at c.requires.placed, refl, refl)
@@ -43,7 +44,7 @@ pub returns-in-Err-clause-header : goal.returns-in-Err-clause-header
 returns-in-Err-clause-header g c = c.in-Err.ensures.header ∙ c.loop-done.invariant.3
 
 pub returns-in-Err-clause-same : goal.returns-in-Err-clause-same
-returns-in-Err-clause-same g c = same-on c.args.column.now c.loop-done.column c.read_some.new.column c.loop-done.invariant.1.same c.in-Err.ensures.same
+returns-in-Err-clause-same g c = field-on c.args.column.now c.loop-done.column c.read_some.new.column c.loop-done.invariant.1.same c.in-Err.ensures.same
 
 pub returns-in-Err-clause-block : goal.returns-in-Err-clause-block
 returns-in-Err-clause-block g c =

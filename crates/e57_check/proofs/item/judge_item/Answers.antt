@@ -1,5 +1,5 @@
 use Rattle.std.proofs.Common.{◌/◌, Err, refl}
-use Rattle.e57_check.specs.Checking.{blob_in}
+use Rattle.e57_tree.specs.Held.{blob_in}
 use Rattle.e57_check.proofs.Things.{blob-at, blob-read, blob-refused, unread-pages}
 use Rattle.e57_check.proofs.item.judge_item.Goals as goal
 

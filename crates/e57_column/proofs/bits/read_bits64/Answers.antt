@@ -1,9 +1,8 @@
-use Rattle.std.specs.Prelude.{IsSome}
-use Rattle.std.proofs.Common.{◌≡◌, ◌+◌, ◌-◌, ◌≤◌, length, take, drop, refl, ◌∙◌, arith}
+use Rattle.std.proofs.Common.{◌-◌, ◌≤◌, length, take, drop, refl, ◌∙◌, arith}
 use Rattle.e57_layout.specs.Values.{word}
-use Rattle.e57_column.proofs.Parts.{length_of_part}
 use Rattle.e57_column.proofs.Joining.{reads_into_on, stops_into_on, reads_into_none, placed-some, placed-is}
 use Rattle.e57_column.proofs.bits.read_bits64.Goals as goal
+use Rattle.e57_stream.proofs.Parts.{length_of_part}
 
 pub loop-done-init : goal.loop-done-init
 loop-done-init g c = record {

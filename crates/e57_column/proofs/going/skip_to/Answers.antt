@@ -1,10 +1,7 @@
-use Rattle.std.specs.Prelude.{◌≡◌, ℕ, ◌≤◌}
 use Rattle.std.proofs.Common.{sym, subst, arith}
-use Rattle.e57_layout.specs.Widths.{width}
-use Rattle.e57_layout.specs.Laws.Widths.{width-le}
-use Rattle.e57_stream.specs.Standing.{IsWithin}
+use Rattle.e57_layout.proofs.Laws.Widths.{width-le}
 use Rattle.e57_stream.specs.declared.chunk.Chunk.{Chunk}
-use Rattle.e57_column.specs.declared.state.Items.TheVariants.{Whole, Strings}
+use Rattle.e57_column.specs.declared.state.Items.TheVariants.{Whole}
 use Rattle.e57_column.specs.Column.{kind_of}
 use Rattle.e57_column.specs.Going.{Skips}
 use Rattle.e57_column.proofs.Skipping.{skips-integers, skips-strings}

@@ -1,10 +1,10 @@
-use Rattle.std.specs.Prelude.{IsSome, Option, ℕ}
-use Rattle.std.proofs.Common.{◌≡◌, ◌+◌, ◌-◌, ◌≤◌, length, take, drop, refl, subst, ◌∙◌, arith}
+use Rattle.std.specs.Prelude.{Option, ℕ}
+use Rattle.std.proofs.Common.{◌-◌, ◌≤◌, length, take, drop, refl, subst, ◌∙◌, arith}
 use Rattle.e57_column.specs.Texts.{ReadsSome}
-use Rattle.e57_column.proofs.Parts.{length_of_part}
 use Rattle.e57_column.proofs.Joining.{placed-some, placed-is}
-use Rattle.e57_column.proofs.Strings.{row_none, row_more, row_left, row_all, row_stops}
+use Rattle.e57_column.proofs.Strings.{row_none, row_more, row_left, row_stops}
 use Rattle.e57_column.proofs.texts.read_texts.Goals as goal
+use Rattle.e57_stream.proofs.Parts.{length_of_part}
 
 pub loop-done-init : goal.loop-done-init
 loop-done-init g c = record {

@@ -2,7 +2,7 @@ use Rattle.std.proofs.Common.{◌≡◌, ◌∙◌, ◌*◌, ◌/◌, Some, None
 use Rattle.e57_base.specs.Fault.{fault}
 use Rattle.e57_base.specs.declared.kind.Kind.TheVariants.{BlobId}
 use Rattle.e57_page.specs.Place.{span_end}
-use Rattle.e57_page.specs.PagesLaws.{cut_asks, asks_unkept_none}
+use Rattle.e57_page.proofs.PagesLaws.{cut_asks, asks_unkept_none}
 use Rattle.e57_file.specs.Blob.{head_place, blob_head}
 use Rattle.e57_file.proofs.Blobs.{head_is, lies, told_size, outside_cause, page_cause, id_outcome, right_id, wrong_id, keeps_only, cut_keeps}
 use Rattle.e57_file.proofs.blob.open_section.Goals as goal

@@ -1,10 +1,11 @@
 use Rattle.std.proofs.Common.{◌≡◌, ◌∙◌, length, drop}
 use Rattle.std.proofs.lemmas.List.{take_at}
 use Rattle.e57_base.specs.Fault.{text_as_open}
-use Rattle.e57_page.specs.PagesLaws.{cut_asks}
+use Rattle.e57_page.proofs.PagesLaws.{cut_asks}
 use Rattle.e57_file.specs.Text.{IsTextRead, IsTextCause}
-use Rattle.e57_file.proofs.Sections.{has_header, asked_for, refused_by_place, refused_by_page, refused_by_text, text_read, by_error}
+use Rattle.e57_file.proofs.Sections.{has_header, asked_for, refused_by_place, refused_by_page, refused_by_text, text_read}
 use Rattle.e57_file.proofs.text.open_text.Goals as goal
+use Rattle.e57_base.proofs.Options.{by_error}
 
 pub returns-in-Err-clause-text : goal.returns-in-Err-clause-text
 returns-in-Err-clause-text g c =

@@ -1,6 +1,6 @@
 use Rattle.std.proofs.Common.{◌≡◌, ◌-◌, ◌*◌}
 use Rattle.e57_layout.specs.IndexPackets.{entries_at}
-use Rattle.e57_sections.specs.Index.{rises, begins_and_rises}
+use Rattle.e57_cloud.specs.Index.{rises, begins_and_rises}
 use Rattle.e57_index.proofs.entries.is_ordered.Given as goal
 
 abbrev pub invariant-loop-k : goal.invariant-loop-k

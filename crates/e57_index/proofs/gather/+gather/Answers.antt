@@ -2,7 +2,7 @@ use Rattle.std.proofs.Common.{◌≡◌, ◌-◌, ◌*◌, ◌+◌, ◌∙◌, �
 use Rattle.std.proofs.lemmas.List.{take_at}
 use Rattle.e57_layout.specs.declared.packet.Entry.{Entry}
 use Rattle.e57_layout.specs.IndexPackets.{entry_at, entries_at}
-use Rattle.e57_sections.specs.Index.{next_first, entry_fault, entries_below}
+use Rattle.e57_cloud.specs.Index.{next_first, entry_fault, entries_below}
 use Rattle.e57_index.specs.Reading.{ReadsIndex}
 use Rattle.e57_index.specs.Gathering.{Gathers, GathersNot}
 use Rattle.e57_index.proofs.Listed.{from-entry, none-from}

@@ -1,11 +1,11 @@
 use Rattle.std.proofs.Common.{◌≡◌, ◌+◌, ◌*◌, ◌++◌, length, take, drop, refl, sym, ◌∙◌, arith}
 use Rattle.std.proofs.lemmas.List.{length-take-le}
 use Rattle.std.proofs.Math.Seq.{take-append_seam}
-use Rattle.e57_page.specs.PagesLaws.{cut_asks}
-use Rattle.e57_index.proofs.Asked.{cut_cause}
+use Rattle.e57_page.proofs.PagesLaws.{cut_asks}
 use Rattle.e57_index.proofs.Judging.{lost_start, lost_level, lost_entries, lost_order, read_whole}
 use Rattle.e57_index.proofs.PacketSpans.{asks_start_spans, asks_packet_spans}
 use Rattle.e57_index.proofs.read.read_index.Goals as goal
+use Rattle.e57_section.proofs.Spans.{cut_cause}
 
 pub returns-in-Err-clause-index : goal.returns-in-Err-clause-index
 returns-in-Err-clause-index g c =

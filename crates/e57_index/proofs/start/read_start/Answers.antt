@@ -3,22 +3,24 @@ use Rattle.std.specs.Prelude.{Some}
 use Rattle.e57_base.specs.Source.{SourceView}
 use Rattle.e57_page.specs.Place.{place, span_end}
 use Rattle.e57_page.specs.Pages.{AsksUnkept}
-use Rattle.e57_page.specs.PagesLaws.{cut_asks}
+use Rattle.e57_page.proofs.PagesLaws.{cut_asks}
 use Rattle.e57_layout.specs.IndexPackets.{entry_count_at, level_at}
 use Rattle.e57_layout.specs.declared.packet.IndexHead.{IndexHead}
 use Rattle.e57_layout.specs.declared.section.Section.{Section}
-use Rattle.e57_sections.specs.Met.{InIndexStart, InSpan}
+use Rattle.e57_cloud.specs.Met.{InIndexStart, InSpan}
 use Rattle.e57_index.specs.Reading.{AsksStart}
-use Rattle.e57_index.proofs.Asked.{told_each, asks_met-none, asks_met-span, cut_cause}
+use Rattle.e57_index.proofs.Asked.{asks_met-none, asks_met-span}
 use Rattle.e57_index.proofs.Starts.{no_place, before_data, past_end, wrong_start, misshapen, sound_start, start_is}
 use Rattle.e57_index.specs.Spans.{start_spans}
 use Rattle.e57_index.proofs.Spanned.{asks_there, asks_nothing}
 use Rattle.e57_index.proofs.start.read_start.Goals as goal
+use Rattle.e57_base.proofs.Told.{told_all}
+use Rattle.e57_section.proofs.Spans.{cut_cause}
 
 asks_start : (s : Section) (kept : List ℕ) (offset q : ℕ) (a b : SourceView) → place offset ≡ Some q → s.start + 32 ≤ q → q + 16 ≤ s.end → AsksUnkept kept (q / 1020) (span_end q 16) a b → AsksStart s offset a b
 asks_start s kept offset q a b is low high asks =
     asks_met-span s (λ file p. InIndexStart s offset p) kept q 16 a b (omega (arith, low)) high
-    (told_each (λ file. (p : ℕ) → InSpan q 16 p → InIndexStart s offset p) a.held (λ file p within. rw is (low, high, within))) asks
+    (told_all (λ file. (p : ℕ) → InSpan q 16 p → InIndexStart s offset p) a.held (λ file p within. rw is (low, high, within))) asks
 
 pub returns-in_default-clause-start : goal.returns-in_default-clause-start
 returns-in_default-clause-start g c =

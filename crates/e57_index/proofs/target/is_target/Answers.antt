@@ -4,7 +4,7 @@ use Rattle.std.proofs.lemmas.Bool.{eq-eqb, ne_eqb}
 use Rattle.e57_bits.specs.Bits.{number}
 use Rattle.e57_layout.specs.Packets.{sort_at}
 use Rattle.e57_layout.specs.declared.packet.Entry.{Entry}
-use Rattle.e57_sections.specs.Index.{is_target as the_is_target}
+use Rattle.e57_cloud.specs.Index.{is_target as the_is_target}
 use Rattle.e57_index.proofs.Targets.{target_is}
 use Rattle.e57_index.proofs.target.is_target.Goals as goal
 

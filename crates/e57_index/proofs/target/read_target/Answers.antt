@@ -1,12 +1,13 @@
 use Rattle.std.proofs.Common.{◌∙◌, ◌+◌, ◌≤◌, refl, sym, arith}
-use Rattle.e57_page.specs.PagesLaws.{cut_asks}
-use Rattle.e57_sections.specs.Met.{InTarget}
-use Rattle.e57_index.proofs.Asked.{asks_met-none, cut_cause}
+use Rattle.e57_page.proofs.PagesLaws.{cut_asks}
+use Rattle.e57_cloud.specs.Met.{InTarget}
+use Rattle.e57_index.proofs.Asked.{asks_met-none}
 use Rattle.e57_index.proofs.Targets.{asks_target, no_target, before_data, past_end, wrong_page, no_target_there, target_there}
 use Rattle.e57_page.specs.Place.{place}
 use Rattle.e57_index.specs.Spans.{target_spans}
 use Rattle.e57_index.proofs.Spanned.{asks_there, asks_nothing}
 use Rattle.e57_index.proofs.target.read_target.Goals as goal
+use Rattle.e57_section.proofs.Spans.{cut_cause}
 
 pub returns-in_default-clause-target : goal.returns-in_default-clause-target
 returns-in_default-clause-target g c =

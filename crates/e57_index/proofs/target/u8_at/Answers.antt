@@ -1,5 +1,5 @@
 use Rattle.std.proofs.Common.{sym}
-use Rattle.e57_bits.specs.BitLaws.{number-byte}
+use Rattle.e57_bits.proofs.BitLaws.{number-byte}
 use Rattle.e57_index.proofs.target.u8_at.Goals as goal
 
 pub returns : goal.returns

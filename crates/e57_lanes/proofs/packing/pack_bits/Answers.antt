@@ -1,6 +1,6 @@
 use Rattle.std.proofs.Common.{◌+◌, ◌*◌, ◌/◌, ◌%◌, ◌^◌, refl, sym, ◌∙◌, arith}
 use Rattle.std.proofs.Math.Nat.{mod-one}
-use Rattle.e57_bits.specs.BitLaws.{number-zero}
+use Rattle.e57_bits.proofs.BitLaws.{number-zero}
 use Rattle.e57_lanes.proofs.Packs.{bit_more, bit_value, same-join, same_at}
 use Rattle.e57_lanes.proofs.packing.pack_bits.Goals as goal
 

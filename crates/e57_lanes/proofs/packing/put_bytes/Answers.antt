@@ -1,6 +1,6 @@
 use Rattle.std.proofs.Common.{◌+◌, ◌*◌, refl, sym, ◌∙◌, arith}
 use Rattle.std.proofs.Math.Nat.{mod-one}
-use Rattle.e57_bits.specs.BitLaws.{number-zero}
+use Rattle.e57_bits.proofs.BitLaws.{number-zero}
 use Rattle.e57_lanes.proofs.Packs.{byte_more, byte_same, same-join, same_at}
 use Rattle.e57_lanes.proofs.packing.put_bytes.Goals as goal
 

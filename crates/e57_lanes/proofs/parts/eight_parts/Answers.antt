@@ -1,5 +1,5 @@
 use Rattle.std.proofs.Common.{◌≡◌, ◌+◌, ◌*◌, ◌/◌, ◌%◌, ℕ, arith, sym}
-use Rattle.e57_bits.specs.BitLaws.{number-byte}
+use Rattle.e57_bits.proofs.BitLaws.{number-byte}
 use Rattle.e57_lanes.proofs.Fields.{field, same_eight, in_one}
 use Rattle.e57_lanes.proofs.parts.eight_parts.Goals as goal
 

@@ -2,7 +2,7 @@ use Rattle.std.proofs.Common.{◌+◌, ◌*◌, ◌/◌, ◌%◌, ◌<◌, ◌�
 use Rattle.std.proofs.Math.Nat.{pow-le-pow_right}
 use Rattle.std.proofs.lemmas.Nat.{mod_below}
 use Rattle.e57_bits.specs.Bits.{number, bit}
-use Rattle.e57_bits.specs.BitLaws.{number-zero, number-lt, bit-byte}
+use Rattle.e57_bits.proofs.BitLaws.{number-zero, number-lt, bit-byte}
 use Rattle.e57_lanes.proofs.Fields.{one_more}
 use Rattle.e57_lanes.proofs.plain.number_bit_by_bit.Goals as goal
 

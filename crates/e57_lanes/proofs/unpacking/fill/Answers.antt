@@ -1,6 +1,6 @@
 use Rattle.std.proofs.Common.{◌≡◌, ◌+◌, ◌*◌, sym, ap, ◌∙◌, arith, ℤ, pos, ◌+ℤ◌, w64, to_z, of_z}
 use Rattle.std.proofs.lemmas.Int.{ints}
-use Rattle.e57_bits.specs.BitLaws.{number-zero}
+use Rattle.e57_bits.proofs.BitLaws.{number-zero}
 use Rattle.e57_lanes.specs.Unpack.{stored}
 use Rattle.e57_lanes.proofs.Items.{Written-more}
 use Rattle.e57_lanes.proofs.unpacking.fill.Goals as goal

@@ -2,8 +2,7 @@ use Rattle.std.proofs.Common.{◌∙◌, refl, sym, arith}
 use Rattle.e57_layout.specs.Packets.{stream_count_at}
 use Rattle.e57_packet.proofs.Shapes.{data_short, data_count, data_past, data_sound}
 use Rattle.e57_packet.proofs.data_packet.read_data_lengths.Goals as goal
-use Rattle.e57_packet.proofs.data_packet.read_data_lengths.Goals.{then-packet-lt-LENGTHS-via-then-packet-lt-LENGTHS, then-packet-lt-LENGTHS-via-else-packet-lt-LENGTHS+then-u16_at-fields}
-use Rattle.e57_packet.proofs.data_packet.read_data_lengths.Goals.{then-packet-begin-via-then-packet-begin, then-packet-begin-via-else-packet-begin+then-packet-begin-2}
+use Rattle.e57_packet.proofs.data_packet.read_data_lengths.Goals.{then-packet-lt-LENGTHS-via-then-packet-lt-LENGTHS, then-packet-lt-LENGTHS-via-else-packet-lt-LENGTHS+then-u16_at-fields, then-packet-begin-via-then-packet-begin, then-packet-begin-via-else-packet-begin+then-packet-begin-2}
 
 pub returns-then-packet-lt-LENGTHS : goal.returns-then-packet-lt-LENGTHS
 unfolding stream_count_at

@@ -5,9 +5,9 @@ use Rattle.std.proofs.lemmas.Grind.{flat_map-append}
 use Rattle.e57_layout.specs.Bytes.{low_bytes}
 use Rattle.e57_layout.specs.Standing.{Stands}
 use Rattle.e57_layout.specs.Packets.{stream_lengths, stream_count_at}
-use Rattle.e57_layout.specs.Laws.Numbers.{AreBelow}
-use Rattle.e57_layout.specs.Laws.Standing.{Stands-past_number, Stands-number_first}
-use Rattle.e57_layout.specs.Laws.Layouts.{lengths-read}
+use Rattle.e57_layout.proofs.Laws.Numbers.{AreBelow}
+use Rattle.e57_layout.proofs.Laws.Standing.{Stands-past_number, Stands-number_first}
+use Rattle.e57_layout.proofs.Laws.Layouts.{lengths-read}
 use Rattle.e57_packet.proofs.Writing.{put_number, put_all}
 use Rattle.e57_packet.proofs.data_packet.write_data_lengths.Goals as goal
 

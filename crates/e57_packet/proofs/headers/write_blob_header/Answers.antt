@@ -1,6 +1,6 @@
 use Rattle.std.proofs.Common.{◌∙◌, refl, append_assoc, rules}
 use Rattle.e57_layout.specs.Headers.{blob_head_of}
-use Rattle.e57_layout.specs.Laws.Layouts.{blob_head-read}
+use Rattle.e57_layout.proofs.Laws.Layouts.{blob_head-read}
 use Rattle.e57_packet.proofs.Writing.{put_next, put_number, put_byte, put_all}
 use Rattle.e57_packet.proofs.headers.write_blob_header.Goals as goal
 

@@ -1,6 +1,6 @@
 use Rattle.std.proofs.Common.{◌∙◌, refl, append_assoc, rules}
 use Rattle.e57_layout.specs.Headers.{section_head}
-use Rattle.e57_layout.specs.Laws.Layouts.{section_head-read}
+use Rattle.e57_layout.proofs.Laws.Layouts.{section_head-read}
 use Rattle.e57_packet.proofs.Writing.{put_next, put_number, put_byte, put_all}
 use Rattle.e57_packet.proofs.headers.write_section_header.Goals as goal
 

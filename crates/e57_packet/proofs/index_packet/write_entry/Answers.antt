@@ -1,6 +1,6 @@
 use Rattle.std.proofs.Common.{refl, rules}
 use Rattle.e57_layout.specs.IndexPackets.{entry_bytes}
-use Rattle.e57_layout.specs.Laws.Layouts.{entry-read}
+use Rattle.e57_layout.proofs.Laws.Layouts.{entry-read}
 use Rattle.e57_packet.proofs.Writing.{put_number, put_all}
 use Rattle.e57_packet.proofs.index_packet.write_entry.Goals as goal
 

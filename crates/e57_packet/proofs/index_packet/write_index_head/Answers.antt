@@ -1,6 +1,6 @@
 use Rattle.std.proofs.Common.{◌∙◌, refl, append_assoc, rules}
 use Rattle.e57_layout.specs.IndexPackets.{index_head}
-use Rattle.e57_layout.specs.Laws.Layouts.{index_head-count, index_head-level}
+use Rattle.e57_layout.proofs.Laws.Layouts.{index_head-count, index_head-level}
 use Rattle.e57_packet.proofs.Writing.{put_next, put_number, put_byte, put_all}
 use Rattle.e57_packet.proofs.index_packet.write_index_head.Goals as goal
 

@@ -1,5 +1,5 @@
 use Rattle.std.proofs.Common.{sym}
-use Rattle.e57_bits.specs.BitLaws.{number-byte}
+use Rattle.e57_bits.proofs.BitLaws.{number-byte}
 use Rattle.e57_packet.proofs.numbers.u8_at.Goals as goal
 
 pub returns : goal.returns

@@ -1,6 +1,6 @@
 use Rattle.std.proofs.Common.{◌-◌, ◌∙◌, refl, append_assoc, rules}
 use Rattle.e57_layout.specs.Packets.{packet_head}
-use Rattle.e57_layout.specs.Laws.Layouts.{packet_head-read}
+use Rattle.e57_layout.proofs.Laws.Layouts.{packet_head-read}
 use Rattle.e57_packet.proofs.Writing.{put_number, put_byte, put_all}
 use Rattle.e57_packet.proofs.packet_head.write_packet_head.Goals as goal
 

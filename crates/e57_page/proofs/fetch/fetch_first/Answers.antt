@@ -2,7 +2,7 @@ use Rattle.std.proofs.Common.{◌≡◌, Some, None, true, false, refl, ◌∙�
 use Rattle.e57_base.specs.declared.kind.Kind.TheVariants.{Page}
 use Rattle.e57_crc.specs.Crc.{is_right}
 use Rattle.e57_base.specs.Fault.{fault}
-use Rattle.e57_page.specs.PagesLaws.{has_page}
+use Rattle.e57_page.proofs.PagesLaws.{has_page}
 use Rattle.e57_page.proofs.Fetching.{asks_for_page, told_wrong, told_right, told_later, told_size, told_header, told_bad_header, told_word, header_kind, header_length, has_first}
 use Rattle.e57_page.proofs.fetch.fetch_first.Goals as goal
 

@@ -1,5 +1,5 @@
 use Rattle.std.proofs.Common.{◌∙◌, arith, ◌/◌}
-use Rattle.e57_page.specs.PagesLaws.{has_page}
+use Rattle.e57_page.proofs.PagesLaws.{has_page}
 use Rattle.e57_page.proofs.Fetching.{scanned_none, scanned_more, scanned_to}
 use Rattle.e57_page.proofs.fetch.scan.Goals as goal
 

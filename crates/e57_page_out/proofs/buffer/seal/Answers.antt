@@ -1,7 +1,7 @@
 use Rattle.std.proofs.Common.{take, reverse, ap, ◌∙◌}
 use Rattle.e57_crc.specs.Crc.{crc}
 use Rattle.e57_layout.specs.Bytes.{low_bytes}
-use Rattle.e57_page_out.specs.SealedLaws.{page_bytes-is}
+use Rattle.e57_page_out.proofs.SealedLaws.{page_bytes-is}
 use Rattle.e57_page_out.proofs.Words.{high_bytes}
 use Rattle.e57_page_out.proofs.buffer.seal.Goals as goal
 

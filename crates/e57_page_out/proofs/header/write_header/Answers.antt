@@ -1,8 +1,8 @@
 use Rattle.std.proofs.Common.{rules, ◌≡◌, ◌++◌, ◌^◌, ◌<◌, [], drop, codes, refl, ◌∙◌}
 use Rattle.e57_layout.specs.Bytes.{low_bytes}
-use Rattle.e57_layout.specs.Laws.Numbers.{length-low_bytes, little-low_bytes}
+use Rattle.e57_layout.proofs.Laws.Numbers.{length-low_bytes, little-low_bytes}
 use Rattle.e57_page_out.specs.HeaderBytes.{header_bytes}
-use Rattle.e57_page_out.specs.HeaderLaws.{header_of-written, header_fault-written}
+use Rattle.e57_page_out.proofs.HeaderLaws.{header_of-written, header_fault-written}
 use Rattle.e57_page_out.proofs.HeaderPieces.{fronted_none, fronted_next, header_fronted}
 use Rattle.e57_page_out.proofs.header.write_header.Goals as goal
 

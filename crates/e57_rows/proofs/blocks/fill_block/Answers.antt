@@ -1,8 +1,9 @@
-use Rattle.e57_records.specs.Block.{room_of}
+use Rattle.e57_blocks.specs.Block.{room_of}
 use Rattle.e57_rows.specs.Blocks.{FillsBlock, FillsNoBlock, IsReady, KeepsBlock}
-use Rattle.e57_rows.proofs.Filling.{by_error, held_after, keeps_filled, keeps_same, lost_block, ready_filled}
+use Rattle.e57_rows.proofs.Filling.{held_after, keeps_filled, keeps_same, lost_block, ready_filled}
 use Rattle.e57_rows.proofs.blocks.fill_block.Goals.{then-not-has+then-is_none+in_ok-fill, else-not-has}
 use Rattle.e57_rows.proofs.blocks.fill_block.Goals as goal
+use Rattle.e57_base.proofs.Options.{by_error}
 
 pub returns-in_err-fill-clause-fills : goal.returns-in_err-fill-clause-fills
 returns-in_err-fill-clause-fills g c =

@@ -1,8 +1,8 @@
 use Rattle.std.proofs.Common.{◌∙◌, get_or, refl, set, arith}
 use Rattle.e57_rows.specs.Blocks.{FillsBlocks, FillsNoBlocks, blocks_slice}
-use Rattle.e57_rows.proofs.Filling.{by_error}
 use Rattle.e57_rows.proofs.Sides.{filled_not, filled_on}
 use Rattle.e57_rows.proofs.blocks.fill_blocks.Goals as goal
+use Rattle.e57_base.proofs.Options.{by_error}
 
 pub returns-in_err-have-clause-fills : goal.returns-in_err-have-clause-fills
 returns-in_err-have-clause-fills g c =

@@ -1,5 +1,5 @@
 use Rattle.std.specs.Prelude.{◌<◌, ◌≤◌, take}
-use Rattle.e57_records.specs.Filling.{most_places}
+use Rattle.e57_blocks.specs.Filling.{most_places}
 use Rattle.e57_rows.specs.Rows.{asked_of}
 use Rattle.e57_rows.specs.Blocks.{OpensBlocks}
 use Rattle.e57_rows.proofs.blocks.open_blocks.Given as goal

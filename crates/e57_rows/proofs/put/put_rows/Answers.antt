@@ -3,12 +3,13 @@ use Rattle.std.specs.List.{AllByRecursion}
 use Rattle.std.proofs.lemmas.List.{take_at}
 use Rattle.e57_base.specs.Fault.{open_as_run}
 use Rattle.e57_base.specs.declared.fault.RunFault.TheVariants.{Memory}
-use Rattle.e57_records.specs.Block.{Block, Holds}
+use Rattle.e57_blocks.specs.Block.{Block, Holds}
 use Rattle.e57_rows.specs.Putting.{slice_of, PutsRows, FailsRows}
 use Rattle.e57_rows.specs.Blocks.{AreBlocks, AreOfFile, FillsBlocks, FillsNoBlocks, IsReady, blocks_slice, held_rows}
-use Rattle.e57_rows.proofs.Filling.{all_told, by_error}
 use Rattle.e57_rows.proofs.Puts.{PutsTo, fails_first, fills_part, holds_later, puts_none, ready_on, run_on, run_not, run_unwritten, run_unput}
 use Rattle.e57_rows.proofs.put.put_rows.Goals as goal
+use Rattle.e57_base.proofs.Told.{told_all}
+use Rattle.e57_base.proofs.Options.{by_error}
 
 pub returns-in_err-blocks-clause-rows : goal.returns-in_err-blocks-clause-rows
 returns-in_err-blocks-clause-rows g c =
@@ -32,7 +33,7 @@ loop-at-init g c =
       high = omega arith;
       are = opens.are;
       ready = opens.ready c.args.from;
-      holds = all_told (λ file. AllByRecursion (Holds file) c.in_ok-blocks.blocks.items) old.held opens.holds;
+      holds = told_all (λ file. AllByRecursion (Holds file) c.in_ok-blocks.blocks.items) old.held opens.holds;
       puts = subst (λ n. PutsTo a n old old out out) none (puts_none a old out);
     }
 

@@ -1,6 +1,6 @@
 use Rattle.std.proofs.Common.{◌≡◌, length, take, refl}
 use Rattle.std.proofs.lemmas.List.{length-take-le}
-use Rattle.e57_page.specs.PagesLaws.{cut_asks}
+use Rattle.e57_page.proofs.PagesLaws.{cut_asks}
 use Rattle.e57_section.proofs.Spans.{cut_keeps, cut_cause}
 use Rattle.e57_section.proofs.Shapes.{data_page}
 use Rattle.e57_section.proofs.data.read_data.Goals as goal

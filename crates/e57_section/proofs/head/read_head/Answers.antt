@@ -1,9 +1,9 @@
 use Rattle.std.proofs.Common.{◌≡◌, ◌∙◌, ◌+◌, ◌≤◌, refl, ap, arith}
-use Rattle.e57_base.specs.Told.{told_map}
+use Rattle.e57_base.proofs.Told.{told_map}
 use Rattle.e57_page.specs.File.{logical}
 use Rattle.e57_layout.specs.Packets.{packet_head_at, length_at, sort_at}
 use Rattle.e57_layout.specs.declared.packet.PacketHead.{PacketHead}
-use Rattle.e57_page.specs.PagesLaws.{cut_asks}
+use Rattle.e57_page.proofs.PagesLaws.{cut_asks}
 use Rattle.e57_section.proofs.Spans.{keeps_only_span, cut_keeps, cut_cause}
 use Rattle.e57_section.proofs.Heads.{head_page, head_kind_found, sound_head, sound_sort, sound_whole, sound_some, length_most, head_past, head_within, head_read}
 use Rattle.e57_section.proofs.head.read_head.Goals as goal

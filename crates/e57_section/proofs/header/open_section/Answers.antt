@@ -1,5 +1,5 @@
 use Rattle.std.proofs.Common.{◌≡◌, ◌∙◌, ◌*◌, ◌/◌, Some, None, refl, sym, arith}
-use Rattle.e57_page.specs.PagesLaws.{cut_asks, asks_for_none}
+use Rattle.e57_page.proofs.PagesLaws.{cut_asks, asks_for_none}
 use Rattle.e57_section.specs.Opening.{header_place}
 use Rattle.e57_section.proofs.Spans.{keeps_only_span, cut_keeps, cut_cause}
 use Rattle.e57_section.proofs.Openings.{header_placed, told_size, outside_cause, page_cause, header_outcome, header_section, header_kind, header_lies, asks_header, asks_no_header, keeps_header, keeps_no_header}

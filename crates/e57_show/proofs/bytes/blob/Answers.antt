@@ -1,14 +1,15 @@
 use Rattle.std.proofs.Common.{◌≡◌, ◌∙◌, ◌*◌, ◌/◌, sym, subst, arith}
 use Rattle.e57_base.specs.Fault.{open_as_run, read_as_run}
 use Rattle.e57_base.specs.declared.fault.RunFault.TheVariants.{Ask}
-use Rattle.e57_file.specs.Blob.{LiesIn, blob_head, blob_fault}
-use Rattle.e57_base.specs.Told.{told_here}
+use Rattle.e57_file.specs.Blob.{LiesIn, blob_head, stated_blob_fault}
+use Rattle.e57_base.proofs.Told.{told_here}
 use Rattle.e57_show.specs.Blob.{blob_streamed}
 use Rattle.e57_show.specs.Streaming.{StreamEnds}
-use Rattle.e57_show.proofs.Putting.{by_error}
-use Rattle.e57_show.proofs.BlobShown.{told_size, keeps_last, has_blob_at, blob_there, asked_text, asked_head, asked_judged, asked_all, judged_later, head_past, bytes_past, not_opened, too_few, no_section, bytes_end, bytes_asked}
+use Rattle.e57_show.proofs.BlobShown.{keeps_last, has_blob_at, blob_there, asked_text, asked_head, asked_judged, asked_all, judged_later, head_past, bytes_past, not_opened, too_few, no_section, bytes_end, bytes_asked}
 use Rattle.std.specs.Prelude.{Some, None}
 use Rattle.e57_show.proofs.bytes.blob.Goals as goal
+use Rattle.e57_base.proofs.Options.{by_error}
+use Rattle.e57_file.proofs.Blobs.{told_size}
 
 pub returns-in_err-file-clause-asked : goal.returns-in_err-file-clause-asked
 returns-in_err-file-clause-asked g c = asked_text c.args.pages.now c.args.k (g.S.Source.view c.args.pages.now.source) (g.S.Source.view c.open.new.pages.source) c.open.ensures.asked
@@ -115,7 +116,7 @@ returns-clause-asked g c =
     let sized = told_size old now.length (g.met.S.Source.holds_size now.source) c.logical_len-size.ensures.open_size in
     let opened = c.in_ok-open_blob.ensures.blob of_nodes.are_nodes.tree of_nodes.are_nodes.in_preorder blob (of_nodes.there of_nodes.are_nodes.tree of_nodes.are_nodes.in_preorder) in
     let lies = subst (λ n. LiesIn (n / 1024 * 1020) blob) c.in_ok-file.ensures.length opened.lies in
-    let sound = told_here (λ file. blob_fault file blob ≡ None) mid.held old.held (sym c.in_ok-file.ensures.asked.3.same.held) opened.sound in
+    let sound = told_here (λ file. stated_blob_fault file blob ≡ None) mid.held old.held (sym c.in_ok-file.ensures.asked.3.same.held) opened.sound in
     asked_all now c.args.k c.open.new.pages.kept blob old mid later new c.in_ok-file.ensures.asked opened.source
     (bytes_asked blob later new (g.O.Sink.view c.args.out.now) (g.O.Sink.view c.put_bytes.new.out) c.put_bytes.result c.put_bytes.ensures.bytes)
     lies sized there sound
@@ -143,7 +144,7 @@ returns-clause-ends g c =
     let opened = c.in_ok-open_blob.ensures.blob of_nodes.are_nodes.tree of_nodes.are_nodes.in_preorder blob (of_nodes.there of_nodes.are_nodes.tree of_nodes.are_nodes.in_preorder) in
     let first = c.in_ok-file.ensures.asked.3 in
     let head = opened.source.3 in
-    let sound = told_here (λ file. blob_fault file blob ≡ None) mid.held old.held (sym first.same.held) opened.sound in
+    let sound = told_here (λ file. stated_blob_fault file blob ≡ None) mid.held old.held (sym first.same.held) opened.sound in
     let a = first.faults in
     let b = head.faults in
     bytes_end c.args.k c.in_ok-file.file blob old later new (g.O.Sink.view c.args.out.now) (g.O.Sink.view c.put_bytes.new.out) c.put_bytes.result c.one_answer.ensures.either c.one_answer.ensures.tree

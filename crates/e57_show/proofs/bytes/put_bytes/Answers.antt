@@ -1,7 +1,8 @@
 use Rattle.std.proofs.Common.{◌∙◌, ◌-◌, length, refl, arith}
 use Rattle.e57_show.specs.BlobPutting.{PutsBytes, FailsBytes}
-use Rattle.e57_show.proofs.Putting.{first_none, first_on, fails_whole, by_error, counted_piece, same_room as the_same_room}
+use Rattle.e57_show.proofs.Putting.{first_none, first_on, fails_whole, counted_piece, same_room as the_same_room}
 use Rattle.e57_show.proofs.bytes.put_bytes.Goals as goal
+use Rattle.e57_base.proofs.Options.{by_error}
 
 pub loop-at-init : goal.loop-at-init
 loop-at-init g c =

@@ -3,9 +3,9 @@ use Rattle.e57_show.specs.Extract.{asked_by, rows_streamed}
 use Rattle.e57_show.specs.Extracting.{selection_of}
 use Rattle.e57_show.specs.Streaming.{StreamEnds}
 use Rattle.e57_show.proofs.BlobShown.{judged_later}
-use Rattle.e57_show.proofs.Putting.{by_error}
 use Rattle.e57_show.proofs.RowsShown.{asked-text, asked-rows, selects-of, not-selected, rows-end, rows-past}
 use Rattle.e57_show.proofs.rows.extract.Goals as goal
+use Rattle.e57_base.proofs.Options.{by_error}
 
 pub returns-in_err-file-clause-asked : goal.returns-in_err-file-clause-asked
 returns-in_err-file-clause-asked g c = asked-text c.args.pages.now (asked_by c.args.ask.now) (g.S.Source.view c.args.pages.now.source) (g.S.Source.view c.open.new.pages.source) c.open.ensures.asked

@@ -4,9 +4,9 @@ use Rattle.std.proofs.Common.{◌*◌, ◌/◌, ◌<◌, ℕ, List, length, sym,
 use Rattle.e57_base.specs.declared.fault.RunFault.{RunFault}
 use Rattle.e57_rows.specs.Putting.{Slice, OnSlice, PutsRows, FailsRows}
 use Rattle.e57_show.specs.Extracting.{selection_of, FailsRecords}
-use Rattle.e57_show.proofs.BlobShown.{told_size}
 use Rattle.e57_show.proofs.Records.{records-none, opening-met, opened-met, rows-met, section-lost, rows-put, fixed-in, section-of, given-slice, met-of}
 use Rattle.e57_show.proofs.rows.put_records.Goals as goal
+use Rattle.e57_file.proofs.Blobs.{told_size}
 
 pub returns-then-count-eq0-clause-puts : goal.returns-then-count-eq0-clause-puts
 returns-then-count-eq0-clause-puts g c = records-none (selection_of c.args.selected.now c.args.fields.now) (g.S.Source.view c.args.pages.now.source) (g.O.Sink.view c.args.out.now) c.if-count-eq0.true

@@ -1,9 +1,9 @@
 use Rattle.std.proofs.Common.{◌∙◌, subst, refl, arith}
 use Rattle.e57_show.specs.Extract.{asked_by}
 use Rattle.e57_show.specs.Extracting.{IsSelected, IsUnselected}
-use Rattle.e57_show.proofs.Putting.{by_error}
 use Rattle.e57_show.proofs.Selecting.{counted, cloud-lacking, is-there, field-lacking, range-lacking, is-selected}
 use Rattle.e57_show.proofs.select.select.Goals as goal
+use Rattle.e57_base.proofs.Options.{by_error}
 
 pub returns-then-asked-have : goal.returns-then-asked-have
 returns-then-asked-have c =

@@ -4,8 +4,8 @@ use Rattle.std.proofs.Math.Nat.{mod-eq_of_lt}
 use Rattle.std.proofs.lemmas.List.{take_more_set, take_all}
 use Rattle.e57_layout.specs.Bytes.{low_bytes}
 use Rattle.e57_layout.specs.Strings.{string_prefix, string_limit, first_prefix, prefix_found}
-use Rattle.e57_layout.specs.Laws.Items.{first_prefix-written}
-use Rattle.e57_layout.specs.Laws.Numbers.{low_bytes-suc, low_bytes-zero, little-low_bytes, length-low_bytes}
+use Rattle.e57_layout.proofs.Laws.Items.{first_prefix-written}
+use Rattle.e57_layout.proofs.Laws.Numbers.{low_bytes-suc, low_bytes-zero, little-low_bytes, length-low_bytes}
 use Rattle.e57_strings.proofs.Prefixes.{le-true, le-false}
 use Rattle.e57_strings.proofs.prefix.spell_prefix.Goals as goal
 

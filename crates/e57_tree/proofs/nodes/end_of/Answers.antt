@@ -1,7 +1,7 @@
 use Rattle.std.proofs.Common.{◌+◌, ◌<◌, ◌≤◌, length, sym, subst}
 use Rattle.e57_elements.specs.declared.tree.RawNode.{RawNode}
 use Rattle.e57_tree.specs.Flat.{AreElements}
-use Rattle.e57_tree.specs.Laws.Flat.{node_inside}
+use Rattle.e57_tree.proofs.Laws.Flat.{node_inside}
 use Rattle.e57_tree.proofs.nodes.end_of.Goals as goal
 
 pub returns-clause-forward : goal.returns-clause-forward

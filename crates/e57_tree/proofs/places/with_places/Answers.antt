@@ -1,6 +1,6 @@
 use Rattle.std.proofs.Common.{◌+◌, ◌++◌, drop, map, ◌∙◌, ap, arith}
 use Rattle.std.specs.Fmt.{decimal}
-use Rattle.e57_nodes.specs.Laws.Places.{placed_nodes}
+use Rattle.e57_nodes.specs.Places.{placed_nodes}
 use Rattle.e57_tree.proofs.Copied.{count_first, nodes_go_on, nodes_end, are_nodes}
 use Rattle.e57_tree.proofs.places.with_places.Goals as goal
 

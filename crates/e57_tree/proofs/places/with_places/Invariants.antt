@@ -1,6 +1,6 @@
 use Rattle.std.proofs.Common.{◌≡◌, ◌+◌, ◌≤◌, ◌++◌, drop, length, map}
 use Rattle.std.specs.Fmt.{decimal}
-use Rattle.e57_nodes.specs.Laws.Places.{item_count, placed_nodes}
+use Rattle.e57_nodes.specs.Places.{item_count, placed_nodes}
 use Rattle.e57_tree.proofs.places.with_places.Given as goal
 
 abbrev pub invariant-loop-n : goal.invariant-loop-n

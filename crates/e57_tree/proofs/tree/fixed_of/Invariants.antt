@@ -1,5 +1,5 @@
 use Rattle.std.proofs.Common.{◌≡◌, drop}
-use Rattle.e57_sections.specs.Cloud.{float_from}
+use Rattle.e57_cloud.specs.Cloud.{float_from}
 use Rattle.e57_nodes.specs.Items.{leaves_of}
 use Rattle.e57_tree.proofs.tree.fixed_of.Given as goal
 

@@ -1,4 +1,4 @@
-use Rattle.e57_base.specs.MemSource.{absent_at_first}
+use Rattle.e57_base.proofs.SourceLaws.{absent_at_first}
 use Rattle.e57_base.proofs.mem_source.MemSource.new.Goals as goal
 
 pub returns-clause-absent : goal.returns-clause-absent

@@ -1,9 +1,9 @@
 use Rattle.std.specs.Prelude.{IfSome}
 use Rattle.e57_base.specs.Fault.{text_as_open}
 use Rattle.e57_file.specs.Opened.{HasNodes, IsOpenCause}
-use Rattle.e57_file.proofs.Sections.{by_error}
 use Rattle.e57_file.proofs.Opening.{judged_later, is_past, late_past, late_cause, has_nodes}
 use Rattle.e57_file.proofs.file.E57.open.Goals as goal
+use Rattle.e57_base.proofs.Options.{by_error}
 
 pub returns-in_err-tree-clause-place : goal.returns-in_err-tree-clause-place
 returns-in_err-tree-clause-place g c =

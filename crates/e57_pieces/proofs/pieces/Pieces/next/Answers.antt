@@ -2,7 +2,7 @@ use Rattle.std.proofs.Common.{List, ℕ, Some, ap, subst}
 use Rattle.std.specs.Str.{IsUtf8}
 use Rattle.e57_pieces.specs.declared.piece.Piece.{Piece}
 use Rattle.e57_pieces.specs.Cut.{IsNext, NoPiece}
-use Rattle.e57_pieces.specs.Laws.Next.{one_next, next_is, none_next}
+use Rattle.e57_pieces.proofs.Laws.Next.{one_next, next_is, none_next}
 use Rattle.e57_pieces.proofs.pieces.Pieces.next.Goals as goal
 
 pub returns-in-Ok-clause-only : goal.returns-in-Ok-clause-only

@@ -1,4 +1,4 @@
-use Rattle.e57_pieces.specs.Laws.Start.{after_mark_le, body_is}
+use Rattle.e57_pieces.proofs.Laws.Start.{after_mark_le, body_is}
 use Rattle.e57_pieces.proofs.pieces.Pieces.start.Goals as goal
 
 pub overflow_sub-place : goal.overflow_sub-place

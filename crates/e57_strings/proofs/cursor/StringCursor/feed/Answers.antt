@@ -1,5 +1,5 @@
 use Rattle.std.proofs.Common.{take}
-use Rattle.e57_strings.specs.HoldsLaws.{Feeds-reads}
+use Rattle.e57_strings.proofs.HoldsLaws.{Feeds-reads}
 use Rattle.e57_strings.proofs.Prefixes.{when_within, when_before, Feeds-string, Feeds-prefix}
 use Rattle.e57_strings.proofs.cursor.StringCursor.feed.Goals as goal
 

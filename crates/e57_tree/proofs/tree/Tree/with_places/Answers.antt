@@ -1,8 +1,7 @@
 use Rattle.std.proofs.Common.{◌∙◌, sym, map, length}
 use Rattle.std.specs.Fmt.{decimal}
 use Rattle.e57_elements.specs.Tree.{preorder}
-use Rattle.e57_nodes.specs.Places.{with_places}
-use Rattle.e57_nodes.specs.Laws.Places.{placed_nodes}
+use Rattle.e57_nodes.specs.Places.{with_places, placed_nodes}
 use Rattle.e57_tree.proofs.Whole.{ok_same, enough_places, places_whole}
 use Rattle.e57_tree.proofs.tree.Tree.with_places.Goals as goal
 

@@ -1,8 +1,0 @@
-use Rattle.e57_verdict.specs.Laws.Opening.{before-opening, before-section}
-use Rattle.e57_verdict.proofs.laws.opening_agrees.Goals as goal
-
-pub returns-clause-opening : goal.returns-clause-opening
-returns-clause-opening c = before-opening
-
-pub returns-clause-section : goal.returns-clause-section
-returns-clause-section c = before-section
