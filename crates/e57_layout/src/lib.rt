@@ -5,7 +5,9 @@
 mod field;
 mod packet;
 mod section;
+mod theorems;
 
 pub use field::{Field, FieldKind, Fixed};
 pub use packet::{Entry, IndexHead, PacketHead};
 pub use section::{BlobHeader, Section, SectionHeader};
+pub use theorems::{blob_header_read_again, items_read_again};

@@ -1,6 +1,6 @@
 -- The `fileOffset` of clouds and blobs: the physical offsets of their sections.
 use Rattle.std.specs.Prelude.{ℕ, Bool, true, false, List, [], ◌∷◌, drop, length, replicate, codes, slice_index_or, Option, Some, None, option_and_then, unwrap_or, if◌then◌else◌}
-use Rattle.std.specs.List.{filter_map}
+use Rattle.std.specs.List.{filter_map, AllByRecursion}
 use Rattle.std.specs.Str.{bytes_eq}
 use Rattle.e57_pieces.specs.declared.piece.Attr.{Attr}
 use Rattle.e57_elements.specs.declared.tree.RawNode.{RawNode}
@@ -8,6 +8,8 @@ use Rattle.e57_elements.specs.Tree.{Element, element, Elements, none, more, preo
 use Rattle.e57_nodes.specs.declared.ElementType.{ElementType}
 use Rattle.e57_nodes.specs.declared.ElementType.TheVariants as element_type
 use Rattle.e57_nodes.specs.Facts.{value_of, unsigned_in, type_in}
+use Rattle.std.specs.Prelude.{◌≡◌, is_some}
+use Rattle.e57_pieces.specs.Characters.{AreCharacters}
 
 -- an element of this type has a section in the file
 abbrev pub has_section : Option ElementType → Bool
@@ -72,3 +74,17 @@ placed_nodes texts (node ∷ nodes) = placed_node texts node ∷ placed_nodes (t
 -- how many of nodes have a section
 abbrev pub item_count : List RawNode → ℕ
 item_count nodes = length (filter_map stated_place nodes)
+
+-- A cloud or blob has a readable place.
+pub record IsPlaced (node : RawNode) : Type 0 where
+  pub readable : is_cloud_or_blob node.attrs ≡ true → is_some (option_and_then unsigned_in (value_of place_name node.attrs)) ≡ true
+
+abbrev pub ArePlaced : List RawNode → Type 0
+ArePlaced nodes = AllByRecursion IsPlaced nodes
+
+-- each text is an unsigned number
+abbrev pub AreReadable : List (List ℕ) → Type 0
+AreReadable texts = AllByRecursion (λ text. is_some (unsigned_in text) ≡ true) texts
+
+abbrev pub AreTexts : List (List ℕ) → Type 0
+AreTexts texts = AllByRecursion AreCharacters texts

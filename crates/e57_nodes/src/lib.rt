@@ -2,6 +2,10 @@
 //! first fault of the first node at fault. Beside one plain type there are definitions, in `specs`, and their laws.
 #![tactic(auto)]
 
+mod theorems;
+
+pub use theorems::other_places;
+
 /// The type of an element (ASTM E2807, element types).
 #[derive(Clone, Copy, Debug, PartialEq, Eq)]
 pub enum ElementType {

@@ -1,5 +1,5 @@
 -- How many bytes of a packet are needed.
-use Rattle.std.specs.Prelude.{◌×◌, ◌≤◌}
+use Rattle.std.specs.Prelude.{◌≤◌}
 use Rattle.std.proofs.Common.{arith}
 use Rattle.e57_section.specs.declared.load.Loaded.{Loaded}
 use Rattle.e57_section.specs.declared.load.Loaded.TheVariants.{Stream, Index, Empty}

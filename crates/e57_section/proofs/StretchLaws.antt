@@ -25,14 +25,6 @@ as_stretch w = record { packets = data_packets w.packets; fault = finish_fault w
 with_first : Packet → Stretch → Stretch
 with_first p w = record { packets = p ∷ w.packets; fault = w.fault; next = w.next }
 
-data-yes : (p : Packet) (ps : List Packet) → p.is_data ≡ true → data_packets (p ∷ ps) ≡ p ∷ data_packets ps
-unfolding data_packets
-data-yes p ps is = cond-true p.is_data (p ∷ data_packets ps) (data_packets ps) is
-
-data-other : (p : Packet) (ps : List Packet) → p.is_data ≡ false → data_packets (p ∷ ps) ≡ data_packets ps
-unfolding data_packets
-data-other p ps other = cond-false p.is_data (p ∷ data_packets ps) (data_packets ps) other
-
 data-none : data_packets [] ≡ []
 unfolding data_packets
 data-none = refl

@@ -15,7 +15,7 @@ use Rattle.e57_cloud.specs.Section.{when, or_zero}
 use Rattle.e57_cloud.specs.Walk.{packet_head_fault, packet_fault}
 use Rattle.e57_cloud.specs.Index.{entries_of, next_first, index_packet_fault, target_fault_at, target_fault, root_fault, root_level, root_entry, Rises}
 use Rattle.e57_cloud.specs.PathItem.{ChunkAt, unless, pick, by_entry, descend, path}
-use Rattle.e57_cloud.proofs.Laws.Sections.{when-false}
+use Rattle.e57_cloud.proofs.Laws.Sections.{when-none}
 use Rattle.e57_cloud.proofs.Laws.Descents.{packet-entries}
 use Rattle.e57_base.proofs.Options.{option_or_parts}
 
@@ -29,8 +29,8 @@ packet-within file s q none =
     let head = option_or_parts (packet_head_fault file s q) _ none in
     let first = option_or_parts (span_fault file q 4) _ head.0 in
     let second = option_or_parts (when (nat_lt 2 (sort_at b q)) (fault PacketType s.node q)) _ first.1 in
-    let tests = or_parts (not (length_at b q % 4 == 0)) (nat_lt s.end (q + length_at b q)) (when-false (not (length_at b q % 4 == 0) || nat_lt s.end (q + length_at b q)) (fault PacketLength s.node q) second.1) in (
-      ltb-false 2 (sort_at b q) (when-false (nat_lt 2 (sort_at b q)) (fault PacketType s.node q) second.0),
+    let tests = or_parts (not (length_at b q % 4 == 0)) (nat_lt s.end (q + length_at b q)) (when-none (not (length_at b q % 4 == 0) || nat_lt s.end (q + length_at b q)) (fault PacketLength s.node q) second.1) in (
+      ltb-false 2 (sort_at b q) (when-none (nat_lt 2 (sort_at b q)) (fault PacketType s.node q) second.0),
       eqb-true (length_at b q % 4) 0 (not-false (length_at b q % 4 == 0) tests.0),
       ltb-false s.end (q + length_at b q) tests.1,
     )
@@ -62,7 +62,7 @@ target-within : (file : List ℕ) (s : Section) (e : Entry) (at : Option ℕ) �
 target-within file s e None none = cc
 target-within file s e (Some q) none =
     let first = option_or_parts (when (nat_lt q s.data_place || nat_lt s.end (q + 4)) (fault IndexTarget s.node e.first)) _ none in
-    let tests = or_parts (nat_lt q s.data_place) (nat_lt s.end (q + 4)) (when-false (nat_lt q s.data_place || nat_lt s.end (q + 4)) (fault IndexTarget s.node e.first) first.0) in
+    let tests = or_parts (nat_lt q s.data_place) (nat_lt s.end (q + 4)) (when-none (nat_lt q s.data_place || nat_lt s.end (q + 4)) (fault IndexTarget s.node e.first) first.0) in
     (ltb-false q s.data_place tests.0, ltb-false s.end (q + 4) tests.1)
 
 pub same_ok : (a b : ChunkAt) → ◌≡◌ {A = Result ChunkAt Fault} (Ok a) (Ok b) → a ≡ b

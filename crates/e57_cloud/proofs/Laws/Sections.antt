@@ -19,14 +19,14 @@ pub record Lies (size : ℕ) (s : Section) : Type 0 where
   pub data_inside : s.data_place ≤ s.end
   pub inside : s.end ≤ size
 
-pub when-false : (test : Bool) (found : Fault) → when test found ≡ None → test ≡ false
-when-false true found none = cc
-when-false false found none = refl
+pub when-none : (test : Bool) (found : Fault) → when test found ≡ None → test ≡ false
+when-none true found none = cc
+when-none false found none = refl
 
 data-lies : (node start : ℕ) (header : SectionHeader) (at : Option ℕ) → data_place_fault node start header at ≡ None → (start + 32 ≤ or_zero at) × (or_zero at ≤ start + header.length)
 data-lies node start header None none = cc
 data-lies node start header (Some q) none =
-    let tests = or_parts (nat_lt q (start + 32)) (nat_lt (start + header.length) q) (when-false (nat_lt q (start + 32) || nat_lt (start + header.length) q) (fault DataPlace node header.data_place) none) in
+    let tests = or_parts (nat_lt q (start + 32)) (nat_lt (start + header.length) q) (when-none (nat_lt q (start + 32) || nat_lt (start + header.length) q) (fault DataPlace node header.data_place) none) in
     (ltb-false q (start + 32) tests.0, ltb-false (start + header.length) q tests.1)
 
 header-lies : (node offset size count fields start : ℕ) (header : SectionHeader) → section_header_fault node offset size start header ≡ None → Lies size (section_with node count fields start header)
@@ -34,7 +34,7 @@ unfolding section_header_fault
 header-lies node offset size count fields start header none =
     let first = option_or_parts (when (nat_lt header.length 32 || nat_lt size (start + header.length)) (fault SectionPlace node offset)) _ none in
     let second = option_or_parts (when (not (header.id == 1)) (fault SectionId node header.id)) _ first.1 in
-    let tests = or_parts (nat_lt header.length 32) (nat_lt size (start + header.length)) (when-false (nat_lt header.length 32 || nat_lt size (start + header.length)) (fault SectionPlace node offset) first.0) in
+    let tests = or_parts (nat_lt header.length 32) (nat_lt size (start + header.length)) (when-none (nat_lt header.length 32 || nat_lt size (start + header.length)) (fault SectionPlace node offset) first.0) in
     let lies = data-lies node start header (place header.data_place) second.1 in
     record { data_after = lies.0; data_inside = lies.1; inside = ltb-false size (start + header.length) tests.1 }
 

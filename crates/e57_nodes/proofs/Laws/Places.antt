@@ -15,6 +15,7 @@ use Rattle.e57_nodes.specs.Shape.{shape, shapes, shape_of, shapes_of}
 use Rattle.e57_nodes.specs.Places.{is_cloud_or_blob, place_name, stated_place, places_in, with_value, with_places, with_places_all, without_places, item_count, placed_node, texts_after, placed_nodes}
 use Rattle.e57_nodes.proofs.Laws.Decimals.{unsigned_in-decimal, decimal_writes, AreCharacters-digits}
 use Rattle.e57_nodes.proofs.Laws.Values.{value_of-with_value, value_of-with_other, with_value-twice, length-with_value, all-with_value, differ-with_value}
+use Rattle.e57_nodes.specs.Places.{IsPlaced, ArePlaced, AreReadable, AreTexts}
 
 -- ---- one element
 
@@ -113,19 +114,6 @@ mutual
       ∙ ap (λ ns. placed_nodes texts (preorder e) ++ ns) (preorder-with_places_all (drop (length (places_in e)) texts) es)
       ∙ sym (placed_nodes-append texts (preorder e) (preorder_all es))
 
--- ---- what is read stays
-
--- A cloud or blob has a readable place.
-pub record IsPlaced (node : RawNode) : Type 0 where
-  pub readable : is_cloud_or_blob node.attrs ≡ true → is_some (option_and_then unsigned_in (value_of place_name node.attrs)) ≡ true
-
-abbrev pub ArePlaced : List RawNode → Type 0
-ArePlaced nodes = AllByRecursion IsPlaced nodes
-
--- each text is an unsigned number
-abbrev pub AreReadable : List (List ℕ) → Type 0
-AreReadable texts = AllByRecursion (λ text. is_some (unsigned_in text) ≡ true) texts
-
 readable_place : (found : Option (List ℕ)) (value : List ℕ) → is_some (option_and_then unsigned_in found) ≡ true → is_some (unsigned_in value) ≡ true
     → is_some (option_and_then unsigned_in (option_map (λ _. value) found)) ≡ is_some (option_and_then unsigned_in found)
 readable_place None value e f = refl
@@ -221,11 +209,6 @@ mutual
   depth_all-with_places_all texts (more e es) =
       ap (λ d. max d (depth_all (with_places_all (drop (length (places_in e)) texts) es))) (depth-with_places texts e)
       ∙ ap (λ d. max (depth e) d) (depth_all-with_places_all (drop (length (places_in e)) texts) es)
-
--- ---- it is lawful where it was
-
-abbrev pub AreTexts : List (List ℕ) → Type 0
-AreTexts texts = AllByRecursion AreCharacters texts
 
 first_characters : (texts : List (List ℕ)) → AreTexts texts → AreCharacters (slice_index_or texts 0 [])
 first_characters [] all = AreCharacters-nil

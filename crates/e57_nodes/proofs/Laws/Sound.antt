@@ -25,7 +25,7 @@ use Rattle.e57_nodes.specs.Paths.{counts_children, child_path}
 use Rattle.e57_nodes.specs.Fields.{child_named, float_kind, kind_of, field_at, fields_from, fields_from_all, fields_below, fields_of}
 use Rattle.e57_nodes.specs.Typed.{max_records, max_fields, type_fault, name_fault, child_fault, attr_fault, order_fault, limits_fault, codecs_fault, prototype_fault, field_count_fault, compressed_vector_fault, node_fault, names_differ, namesake_of, tree_fault, trees_fault, typed_fault}
 use Rattle.e57_nodes.specs.Items.{StatedItem, stated_cloud, stated_blob, stated_by, stated_item, stated_items}
-use Rattle.e57_cloud.proofs.Laws.Sections.{when-false}
+use Rattle.e57_cloud.proofs.Laws.Sections.{when-none}
 
 -- ---- what is promised
 
@@ -222,7 +222,7 @@ record AreGood (facts : Facts) : Type 0 where
 
 good_limits : (n : ℕ) (facts : Facts) → AreRead facts → order_fault n facts ≡ None → AreGood facts
 good_limits n facts are_read e = record {
-  order = in_order (unwrap_or facts.minimum (pos 0)) (unwrap_or facts.maximum (pos 0)) (when-false (int_lt (unwrap_or facts.maximum (pos 0)) (unwrap_or facts.minimum (pos 0))) (fault kind.Limits n 0) e);
+  order = in_order (unwrap_or facts.minimum (pos 0)) (unwrap_or facts.maximum (pos 0)) (when-none (int_lt (unwrap_or facts.maximum (pos 0)) (unwrap_or facts.minimum (pos 0))) (fault kind.Limits n 0) e);
   low = limit_small facts.minimum are_read.minimum;
   high = limit_small facts.maximum are_read.maximum;
 }
@@ -315,10 +315,10 @@ sound_cloud nodes x inside free =
     let after_limit = option_or-none (when (ltb max_records count) (fault kind.RecordLimit x.number count)) (option_or codecs (option_or prototype (field_count_fault x.number fields))) free in
     let after_codecs = option_or-none codecs (option_or prototype (field_count_fault x.number fields)) after_limit.1 in
     let after_prototype = option_or-none prototype (field_count_fault x.number fields) after_codecs.1 in
-    let counts = or_parts (eqb fields 0) (ltb max_fields fields) (when-false (eqb fields 0 || ltb max_fields fields) (fault kind.FieldCount x.number fields) after_prototype.1) in
+    let counts = or_parts (eqb fields 0) (ltb max_fields fields) (when-none (eqb fields 0 || ltb max_fields fields) (fault kind.FieldCount x.number fields) after_prototype.1) in
     record {
       number = omega (arith, inside.few);
-      few_records = ltb-false max_records count (when-false (ltb max_records count) (fault kind.RecordLimit x.number count) after_limit.0);
+      few_records = ltb-false max_records count (when-none (ltb max_records count) (fault kind.RecordLimit x.number count) after_limit.0);
       some_field = let some = eqb-false fields 0 counts.0 in omega arith;
       few_fields = ltb-false max_fields fields counts.1;
       each = sound_fields_of nodes x inside;

@@ -12,12 +12,11 @@ use Rattle.e57_nodes.specs.declared.ElementType.{ElementType}
 use Rattle.e57_nodes.specs.declared.ElementType.TheVariants as element_type
 use Rattle.e57_nodes.specs.Facts.{type_in, Facts, facts_of}
 use Rattle.e57_nodes.specs.Shape.{shape_of, shapes_of, node_count, Node, node_at, nodes_from, nodes_from_all}
-use Rattle.e57_nodes.specs.Places.{has_section, stated_place, places_in, item_count}
+use Rattle.e57_nodes.specs.Places.{has_section, stated_place, places_in, item_count, IsPlaced, ArePlaced}
 use Rattle.e57_nodes.specs.Typed.{unread, attr_fault, typed_fault}
 use Rattle.e57_nodes.specs.Items.{stated_by, stated_item, stated_items}
-use Rattle.e57_nodes.proofs.Laws.Places.{IsPlaced, ArePlaced}
 use Rattle.e57_nodes.proofs.Laws.Sound.{AreSound, sound_nodes, option_or-none, sound-parts}
-use Rattle.e57_cloud.proofs.Laws.Sections.{when-false}
+use Rattle.e57_cloud.proofs.Laws.Sections.{when-none}
 
 -- ---- readable places
 
@@ -31,13 +30,13 @@ placed_by n None facts e h = absurd (cc)
 placed_by n (Some element_type.Structure) facts e h = absurd (cc)
 placed_by n (Some element_type.Vector) facts e h = absurd (cc)
 placed_by n (Some element_type.CompressedVector) facts e h =
-    not-false facts.has_place (when-false (not facts.has_place) (fault kind.NodeAttr n 4) (option_or-none (when (not facts.has_place) (fault kind.NodeAttr n 4)) (unread n 5 facts.record_count) e).0)
+    not-false facts.has_place (when-none (not facts.has_place) (fault kind.NodeAttr n 4) (option_or-none (when (not facts.has_place) (fault kind.NodeAttr n 4)) (unread n 5 facts.record_count) e).0)
 placed_by n (Some element_type.Integer) facts e h = absurd (cc)
 placed_by n (Some element_type.ScaledInteger) facts e h = absurd (cc)
 placed_by n (Some element_type.Float) facts e h = absurd (cc)
 placed_by n (Some element_type.String) facts e h = absurd (cc)
 placed_by n (Some element_type.Blob) facts e h =
-    not-false facts.has_place (when-false (not facts.has_place) (fault kind.NodeAttr n 4) (option_or-none (when (not facts.has_place) (fault kind.NodeAttr n 4)) (unread n 6 facts.blob_length) e).0)
+    not-false facts.has_place (when-none (not facts.has_place) (fault kind.NodeAttr n 4) (option_or-none (when (not facts.has_place) (fault kind.NodeAttr n 4)) (unread n 6 facts.blob_length) e).0)
 
 placed_element : (n size : ℕ) (name : List ℕ) (attrs : List Attr) (text : List ℕ) → attr_fault n (facts_of name attrs text).element_type (facts_of name attrs text) ≡ None
     → IsPlaced (record { name = name; attrs = attrs; text = text; size = size })

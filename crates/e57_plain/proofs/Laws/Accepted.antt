@@ -37,7 +37,7 @@ use Rattle.e57_verdict.specs.Content.{Content, IsContent}
 use Rattle.e57_plain.specs.Valid.{AreBodies, IsValid}
 use Rattle.e57_plain.proofs.Laws.Sections.{sound-kinds}
 use Rattle.e57_plain.proofs.Laws.Whole.{placed-tree}
-use Rattle.e57_cloud.proofs.Laws.Sections.{when-false}
+use Rattle.e57_cloud.proofs.Laws.Sections.{when-none}
 
 -- ---- records
 
@@ -108,7 +108,7 @@ blob-length file b free = by_place (place b.offset) free where
   by_place (Some start) free =
       let head = (blob_head_at (logical file) start).id in
       let first = option_or-none (when (nat_lt (logical_size file) (start + (16 + b.length))) (fault BlobPlace b.node b.offset)) (option_or (span_fault file start 16) (when (not (head == 0)) (fault BlobId b.node head))) free in
-      let room = not-past (logical_size file) (start + (16 + b.length)) (when-false (nat_lt (logical_size file) (start + (16 + b.length))) (fault BlobPlace b.node b.offset) first.0) in
+      let room = not-past (logical_size file) (start + (16 + b.length)) (when-none (nat_lt (logical_size file) (start + (16 + b.length))) (fault BlobPlace b.node b.offset) first.0) in
       let all = length-logical file in
       length-take-le b.length (drop (start + 16) (logical file)) (omega (arith, length-drop (start + 16) (logical file)))
 

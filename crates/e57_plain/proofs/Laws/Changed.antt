@@ -25,7 +25,7 @@ use Rattle.e57_plain.proofs.Laws.Forms.{Form, cloud_form, blob_form, form_list, 
 use Rattle.e57_plain.proofs.Laws.LimitedTrees.{nodes-parts}
 use Rattle.e57_plain.proofs.Laws.Pruned.{facts-type, chosen-empty, IsLess, smaller-node, less-more, less-element}
 use Rattle.e57_plain.proofs.Laws.WithCloud.{IsReduced, nodes-same, node-same, more-same, more-other, places-more, reduce, form_clouds, form_clouds-append, vector-clouds, with_count, counted_attrs, counted-facts, counted-section, counted-keeps, counted-stated, counted-node}
-use Rattle.e57_cloud.proofs.Laws.Sections.{when-false}
+use Rattle.e57_cloud.proofs.Laws.Sections.{when-none}
 
 -- ---- forms, one of which is changed
 
@@ -166,7 +166,7 @@ not-false false e = absurd (cc)
 count-there : (facts : Facts) → attr_fault 0 (Some element_type.CompressedVector) facts ≡ None → is_some facts.record_count ≡ true
 unfolding attr_fault
 count-there facts free =
-    not-false (is_some facts.record_count) (when-false (not (is_some facts.record_count)) (fault kind.NodeAttr 0 5) (option_or-none (when (not facts.has_place) (fault kind.NodeAttr 0 4)) (unread 0 5 facts.record_count) free).1)
+    not-false (is_some facts.record_count) (when-none (not (is_some facts.record_count)) (fault kind.NodeAttr 0 5) (option_or-none (when (not facts.has_place) (fault kind.NodeAttr 0 4)) (unread 0 5 facts.record_count) free).1)
 
 cloud_type : (t : Option ElementType) → is_cloud_type t ≡ true → t ≡ Some element_type.CompressedVector
 cloud_type None is = absurd (cc)

@@ -18,6 +18,7 @@ use Rattle.e57_nodes.proofs.Laws.Sound.{option_or-none}
 use Rattle.e57_plain.proofs.Laws.Typing.{name_in, names_in, is_among, called, AreDistinct, kinds_all, is_expected, ChildRule, CodecsRule, IsPrototype, PrototypeRule, VectorRule, IsTypedNode, IsTyped, AreTyped, none-or, when-other, when-false, map-none, none-map, stripped, child-called, among-named, find-skip, find-no, is_section, no-sections, sections-none, length-kinds, vector_kinds, fields_of-kinds}
 use Rattle.std.proofs.lemmas.Bool.{and_parts, or_parts, and_from}
 use Rattle.e57_base.proofs.Options.{absent_is_none}
+use Rattle.e57_cloud.proofs.Laws.Sections.{when-none}
 
 -- ---- type
 
@@ -30,13 +31,13 @@ type-root : (n : ℕ) (t : Option ElementType) → type_fault n t ≡ None → (
 unfolding type_fault
 type-root n None free root = absurd (cc)
 type-root n (Some element_type.Structure) free root = refl
-type-root n (Some element_type.Vector) free root = absurd (let h = when-false (n == 0) (fault kind.NodeType n 0) free in cc)
-type-root n (Some element_type.CompressedVector) free root = absurd (let h = when-false (n == 0) (fault kind.NodeType n 0) free in cc)
-type-root n (Some element_type.Integer) free root = absurd (let h = when-false (n == 0) (fault kind.NodeType n 0) free in cc)
-type-root n (Some element_type.ScaledInteger) free root = absurd (let h = when-false (n == 0) (fault kind.NodeType n 0) free in cc)
-type-root n (Some element_type.Float) free root = absurd (let h = when-false (n == 0) (fault kind.NodeType n 0) free in cc)
-type-root n (Some element_type.String) free root = absurd (let h = when-false (n == 0) (fault kind.NodeType n 0) free in cc)
-type-root n (Some element_type.Blob) free root = absurd (let h = when-false (n == 0) (fault kind.NodeType n 0) free in cc)
+type-root n (Some element_type.Vector) free root = absurd (let h = when-none (n == 0) (fault kind.NodeType n 0) free in cc)
+type-root n (Some element_type.CompressedVector) free root = absurd (let h = when-none (n == 0) (fault kind.NodeType n 0) free in cc)
+type-root n (Some element_type.Integer) free root = absurd (let h = when-none (n == 0) (fault kind.NodeType n 0) free in cc)
+type-root n (Some element_type.ScaledInteger) free root = absurd (let h = when-none (n == 0) (fault kind.NodeType n 0) free in cc)
+type-root n (Some element_type.Float) free root = absurd (let h = when-none (n == 0) (fault kind.NodeType n 0) free in cc)
+type-root n (Some element_type.String) free root = absurd (let h = when-none (n == 0) (fault kind.NodeType n 0) free in cc)
+type-root n (Some element_type.Blob) free root = absurd (let h = when-none (n == 0) (fault kind.NodeType n 0) free in cc)
 
 not-root : (b : Bool) (t : ElementType) → (b ≡ true → Some t ≡ Some element_type.Structure) → (Some t ≡ Some element_type.Structure → ⊥) → b ≡ false
 not-root true t is other = absurd (other (is refl))
@@ -70,7 +71,7 @@ name-parts : (n : ℕ) (namesake : Option ℕ) (name : List ℕ) → name_fault 
 unfolding name_fault
 name-parts n namesake name free =
     let parts = option_or-none (when (n == 0 && not (bytes_eq name (codes "e57Root"))) (fault kind.NodeName n 0)) (option_map (λ earlier. fault kind.NodeName n earlier) namesake) free in
-    (and-false (n == 0) (bytes_eq name (codes "e57Root")) (when-false (n == 0 && not (bytes_eq name (codes "e57Root"))) (fault kind.NodeName n 0) parts.0), map-none (λ earlier. fault kind.NodeName n earlier) namesake parts.1)
+    (and-false (n == 0) (bytes_eq name (codes "e57Root")) (when-none (n == 0 && not (bytes_eq name (codes "e57Root"))) (fault kind.NodeName n 0) parts.0), map-none (λ earlier. fault kind.NodeName n earlier) namesake parts.1)
 
 name-none : (n : ℕ) (namesake : Option ℕ) (name : List ℕ) → ((n == 0) ≡ true → bytes_eq name (codes "e57Root") ≡ true) → namesake ≡ None → name_fault n namesake name ≡ None
 unfolding name_fault
@@ -201,7 +202,7 @@ codecs-rule n m below free = subst (λ (s : Option Shape). CodecsRule s) (child-
 
   by_found : (found : Option Node) → codecs_fault n found ≡ None → CodecsRule (option_map stripped found)
   by_found None free = tt
-  by_found (Some x) free = bare (x.number + 1) x.below (when-false (is_some (slice_get (children_of x) 0)) (fault kind.Codecs n x.number) free)
+  by_found (Some x) free = bare (x.number + 1) x.below (when-none (is_some (slice_get (children_of x) 0)) (fault kind.Codecs n x.number) free)
 
 rule-codecs : (n m : ℕ) (below : Shapes) → CodecsRule (called (codes "codecs") below) → codecs_fault n (child_named (codes "codecs") (children_from m below)) ≡ None
 rule-codecs n m below rule = by_found (child_named (codes "codecs") (children_from m below)) (subst (λ (s : Option Shape). CodecsRule s) (sym (child-called (codes "codecs") m below)) rule) where
@@ -216,7 +217,7 @@ rule-codecs n m below rule = by_found (child_named (codes "codecs") (children_fr
 -- a count of fields
 count-rule : (n k : ℕ) → field_count_fault n k ≡ None → (0 < k) × (k ≤ 512)
 count-rule n k free =
-    let parts = or_parts (k == 0) (nat_lt max_fields k) (when-false (k == 0 || nat_lt max_fields k) (fault kind.FieldCount n k) free) in
+    let parts = or_parts (k == 0) (nat_lt max_fields k) (when-none (k == 0 || nat_lt max_fields k) (fault kind.FieldCount n k) free) in
     let first = parts.0 in
     let second = parts.1 in
     (grind (arith, nat_tests), grind (arith, nat_tests))
@@ -241,7 +242,7 @@ prototype-rule x free = subst (λ (s : Option Shape). PrototypeRule s) (child-ca
       let both = option_or-none (when (not (is_structure p.facts.element_type)) (fault kind.Prototype x.number p.number)) (option_map (λ (y : Node). fault kind.Prototype x.number y.number) (find is_section (nodes_below p))) free in
       let count = ap length same in
       record {
-        is_structure = not-false (is_structure p.facts.element_type) (when-false (not (is_structure p.facts.element_type)) (fault kind.Prototype x.number p.number) both.0);
+        is_structure = not-false (is_structure p.facts.element_type) (when-none (not (is_structure p.facts.element_type)) (fault kind.Prototype x.number p.number) both.0);
         no_section = no-sections (p.number + 1) p.below (map-none (λ (y : Node). fault kind.Prototype x.number y.number) (find is_section (nodes_below p)) both.1);
         some = let c = counts.0 in omega arith;
         few = let c = counts.1 in omega arith;
@@ -270,7 +271,7 @@ vector-rule x (Some element_type.CompressedVector) free =
     let first = option_or-none (record_limit_fault x.number x.facts) (option_or (codecs_fault x.number (child_named (codes "codecs") (children_of x))) (prototype_fields_fault x)) free in
     let rest = option_or-none (codecs_fault x.number (child_named (codes "codecs") (children_of x))) (prototype_fields_fault x) first.1 in
     record {
-      few = when-false (nat_lt max_records (unwrap_or x.facts.record_count 0)) (fault kind.RecordLimit x.number (unwrap_or x.facts.record_count 0)) first.0;
+      few = when-none (nat_lt max_records (unwrap_or x.facts.record_count 0)) (fault kind.RecordLimit x.number (unwrap_or x.facts.record_count 0)) first.0;
       codecs = codecs-rule x.number (x.number + 1) x.below rest.0;
       prototype = prototype-rule x rest.1;
     }

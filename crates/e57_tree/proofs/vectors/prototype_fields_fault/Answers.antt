@@ -6,7 +6,7 @@ use Rattle.e57_nodes.specs.Shape.{Node, children_of}
 use Rattle.e57_nodes.specs.Fields.{child_named, fields_below, fields_of}
 use Rattle.e57_nodes.specs.Typed.{field_count_fault, prototype_fault}
 use Rattle.e57_tree.specs.Flat.{node_in}
-use Rattle.e57_tree.proofs.vectors.fields_fault.Goals as goal
+use Rattle.e57_tree.proofs.vectors.prototype_fields_fault.Goals as goal
 
 pub returns-in-Some : goal.returns-in-Some
 returns-in-Some c =
