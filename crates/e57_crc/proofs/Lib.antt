@@ -1,4 +1,5 @@
 pub mod StepLaws
 pub mod RegisterLaws
 pub mod TableLaws
+pub mod FarLaws
 pub mod WordLaws

@@ -45,13 +45,47 @@ register-byte b small i r s before e =
     let next : 8 * (i + 1) ≡ 8 * i + 8 = omega arith in
     rw (e, before, next, register-more b (8 * i) 8, number-byte b i (small i)) refl
 
--- the eight bytes from 8 * i on go in, as two words
-pub register-words : (b : List ℕ) (i r low high s : ℕ) → r ≡ register b (8 * (8 * i)) → low ≡ number b (8 * (8 * i)) 32 → high ≡ number b (8 * (8 * i + 4)) 32
-    → s ≡ steps 32 (bit_xor (steps 32 (bit_xor r low)) high) → s ≡ register b (8 * (8 * (i + 1)))
-register-words b i r low high s before first second e =
-    let middle : 8 * (8 * i + 4) ≡ 8 * (8 * i) + 32 = omega arith in
-    let next : 8 * (8 * (i + 1)) ≡ 8 * (8 * i) + 32 + 32 = omega arith in
-    rw (e, before, first, second, middle, next, register-more b (8 * (8 * i) + 32) 32, register-more b (8 * (8 * i)) 32) refl
+-- the register r after k bits from t on, and then after j bits more
+pub fed-more : (b : List ℕ) (r t k j : ℕ) → steps (k + j) (bit_xor r (number b t (k + j))) ≡ steps j (bit_xor (steps k (bit_xor r (number b t k))) (number b (t + k) j))
+fed-more b r t k zero =
+    rw (add-zero, number-zero b (t + k), steps-zero (bit_xor (steps k (bit_xor r (number b t k))) 0), xor_zero_r (steps k (bit_xor r (number b t k)))) refl
+fed-more b r t k (suc j) =
+    let place : t + k + j ≡ t + (k + j) = omega arith in
+    let before : ℕ = steps k (bit_xor r (number b t k)) in
+    ap (λ n. steps n (bit_xor r (number b t n))) (add-suc k j)
+    ∙ ap (λ n. steps (suc (k + j)) (bit_xor r n)) (number-suc b t (k + j))
+    ∙ steps-suc (k + j) (bit_xor r (number b t (k + j) + 2 ^ (k + j) * bit b (t + (k + j))))
+    ∙ ap step (bit_above (k + j) r (number b t (k + j)) (bit b (t + (k + j))) (number-lt b t (k + j)))
+    ∙ ap (λ x. step (bit_xor x (bit b (t + (k + j))))) (fed-more b r t k j)
+    ∙ ap (λ i. step (bit_xor (steps j (bit_xor before (number b (t + k) j))) (bit b i))) (sym place)
+    ∙ ap step (sym (bit_above j before (number b (t + k) j) (bit b (t + k + j)) (number-lt b (t + k) j)))
+    ∙ sym (steps-suc j (bit_xor before (number b (t + k) j + 2 ^ j * bit b (t + k + j))))
+    ∙ ap (λ n. steps (suc j) (bit_xor before n)) (sym (number-suc b (t + k) j))
+
+-- the eight bytes at k go in, as two words
+pub eight-words : (b : List ℕ) (k r low high s : ℕ) → low ≡ number b (8 * k) 32 → high ≡ number b (8 * (k + 4)) 32
+    → s ≡ steps 32 (bit_xor (steps 32 (bit_xor r low)) high) → s ≡ steps 64 (bit_xor r (number b (8 * k) 64))
+eight-words b k r low high s first second e =
+    let middle : 8 * (k + 4) ≡ 8 * k + 32 = omega arith in
+    rw (e, first, second, middle) (sym (fed-more b r (8 * k) 32 32))
+
+-- the eight bytes from 8 * i on go in
+pub register-eight : (b : List ℕ) (i r s : ℕ) → r ≡ register b (8 * (8 * i)) → s ≡ steps 64 (bit_xor r (number b (8 * (8 * i)) 64)) → s ≡ register b (8 * (8 * (i + 1)))
+register-eight b i r s before e =
+    let next : 8 * (8 * (i + 1)) ≡ 8 * (8 * i) + 64 = omega arith in
+    rw (e, before, next, register-more b (8 * (8 * i)) 64) refl
+
+-- the register 0 after no bits, and after k bits from t on and then j bits more
+pub apart-zero : (b : List ℕ) (t : ℕ) → 0 ≡ steps 0 (number b t 0)
+apart-zero b t = sym (ap (steps 0) (number-zero b t) ∙ steps-zero 0)
+
+pub apart-more : (b : List ℕ) (t k j at r s all : ℕ) → r ≡ steps k (number b t k) → at ≡ t + k → all ≡ k + j → s ≡ steps j (bit_xor r (number b at j)) → s ≡ steps all (number b t all)
+apart-more b t k j at r s all before place sum e = rw (e, before, place, sum) (sym (fed-more b 0 t k j))
+
+-- the register after t bits, and the register 0 after the k bits behind them
+pub register-joined : (b : List ℕ) (t k first far last : ℕ) → first ≡ register b t → far ≡ steps k first → last ≡ steps k (number b t k) → bit_xor far last ≡ register b (t + k)
+register-joined b t k first far last before shifted_on beside =
+    rw (shifted_on, before, beside, register-more b t k, steps-xor k (register b t) (number b t k)) refl
 
 pub crc-is : (b : List ℕ) → crc b ≡ bit_xor (register b (8 * length b)) 4294967295
 unfolding crc

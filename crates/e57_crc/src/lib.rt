@@ -4,25 +4,30 @@
 mod tables;
 
 ghost use Rattle.std.specs.Prelude.{◌≡◌, ◌+◌, ◌*◌, ◌≤◌, length, bit_xor};
+ghost use Rattle.e57_bits.specs.Bits.{number};
 ghost use Rattle.e57_crc.specs.Crc.{crc, is_right, register};
 ghost use Rattle.e57_crc.specs.Steps.{steps};
 
-use crate::tables::looked_up;
+use crate::tables::{looked_up, looked_up_far};
 use e57_bits::u32_at;
 
 /// The payload of a page in bytes; its checksum word follows.
 const PAYLOAD: usize = 1020;
 
+/// The bytes of a payload that go in from the start; the other 516 go in beside them.
+const FIRST: usize = 504;
+
 /// The CRC-32C of the bytes. Total, takes no memory.
 pub fn crc32c(bytes: &[u8]) -> u32
     ensures { result ≡ crc bytes.now }
 {
+    if bytes.len() == PAYLOAD {
+        return after_payload(bytes) ^ u32::MAX;
+    }
     let eights = bytes.len() / 8;
     let mut so_far = u32::MAX;
     for i in 0..eights {
-        let low = u32_at(bytes, 8 * i);
-        let high = u32_at(bytes, 8 * i + 4);
-        so_far = after_words(so_far, low, high);
+        so_far = after_eight(so_far, bytes, 8 * i);
     }
     after_rest(so_far, bytes, 8 * eights) ^ u32::MAX
 }
@@ -36,6 +41,32 @@ pub fn word_right(page: &[u8; 1024]) -> bool
     let stored = u32_at(word, 0);
     let checksum = crc32c(payload);
     stored == checksum || stored.swap_bytes() == checksum
+}
+
+/// The register after a page's payload. Its first 504 bytes and its last 516 go in side by side, the
+/// last from register 0, since the register is linear: after all, it is the first part's register
+/// over 516 bytes 0, exclusive or the last part's.
+fn after_payload(payload: &[u8]) -> u32
+    requires { length payload.now ≡ 1020 }
+    ensures { result ≡ register payload.now (8 * 1020) }
+{
+    let mut first = u32::MAX;
+    let mut last = 0;
+    for i in 0..FIRST / 8 {
+        first = after_eight(first, payload, 8 * i);
+        last = after_eight(last, payload, FIRST + 8 * i);
+    }
+    last = after_eight(last, payload, PAYLOAD - 12);
+    after_four_far(first) ^ after_four(last ^ u32_at(payload, PAYLOAD - 4), 0)
+}
+
+/// The register `start` after the eight bytes at `at`.
+#[inline]
+fn after_eight(start: u32, bytes: &[u8], at: usize) -> u32
+    requires { at + 8 ≤ length bytes.now }
+    ensures { result ≡ steps 64 (bit_xor start (number bytes.now (8 * at) 64)) }
+{
+    after_words(start, u32_at(bytes, at), u32_at(bytes, at + 4))
 }
 
 /// The register `start` after eight bytes, the words `low` and `high`.
@@ -55,6 +86,16 @@ fn after_four(word: u32, zeros: usize) -> u32
         ^ looked_up((word >> 8 & 0xff) as u8, zeros + 2)
         ^ looked_up((word >> 16 & 0xff) as u8, zeros + 1)
         ^ looked_up((word >> 24) as u8, zeros)
+}
+
+/// The register `word` after its own 32 bits and then 512 bytes 0.
+fn after_four_far(word: u32) -> u32
+    ensures { result ≡ steps (8 * (512 + 4)) word }
+{
+    looked_up_far((word & 0xff) as u8, 3)
+        ^ looked_up_far((word >> 8 & 0xff) as u8, 2)
+        ^ looked_up_far((word >> 16 & 0xff) as u8, 1)
+        ^ looked_up_far((word >> 24) as u8, 0)
 }
 
 /// The register `start` after one byte.
