@@ -1,7 +1,7 @@
 -- Laws of several calls in a row that write one file.
-use Rattle.std.proofs.Common.{◌≡◌, ℕ, ◌+◌, ◌/◌, ◌<◌, List, ◌++◌, Option, Some, None, refl, sym, ap, subst, ◌∙◌, arith}
+use Rattle.std.proofs.Common.{◌≡◌, ℕ, ◌+◌, ◌/◌, ◌<◌, ◌≤◌, List, [], ◌++◌, length, Option, Some, None, refl, sym, ap, subst, ◌∙◌, arith, add-zero}
 use Rattle.std.specs.Option.{option_map}
-use Rattle.std.proofs.lemmas.List.{append_assoc, length-append}
+use Rattle.std.proofs.lemmas.List.{append_assoc, append-nil, length-append}
 use Rattle.e57_base.proofs.CountLaws.{rose_before}
 use Rattle.e57_base.specs.Target.{TargetView}
 use Rattle.e57_base.specs.declared.fault.PutFault.{PutFault}
@@ -26,6 +26,12 @@ puts_both view a b c x y first next =
     joined (Some bytes) = ap Some (append_assoc bytes x y)
 
 -- nothing was put
+pub puts_nothing : {T : Type 0} (view : T → TargetView) (out : Writing T) → IsBeingWritten view out → Puts view out [] out
+puts_nothing view out state = record { bytes = same out.told_bytes; size = sym (add-zero out.size); held = refl; state = state; target = keeps_none (view out.target) } where
+  same : (told : Option (List ℕ)) → told ≡ option_map (λ (xs : List ℕ). xs ++ []) told
+  same None = refl
+  same (Some bytes) = ap Some (sym (append-nil bytes))
+
 pub leaves_still : {T : Type 0} (view : T → TargetView) (out : Writing T) → IsBeingWritten view out → Leaves view out (view out.target)
 leaves_still view out state = record { unended = state.unended; unfinished = state.unfinished; target = keeps_none (view out.target) }
 
@@ -59,3 +65,15 @@ pub loses_later : {T : Type 0} (view : T → TargetView) (a b : Writing T) (told
 loses_later view a b told count page past more Target now done lost wider =
     (leaves_later view a b now done.target lost.0, rose_before (view a.target).faults (view b.target).faults now.faults done.target.faults lost.1)
 loses_later view a b told count page past more Large now done lost wider = (leaves_later view a b now done.target lost.0, wider lost.1)
+
+-- what is too large is said in wider terms
+pub loses_wider : {T : Type 0} (view : T → TargetView) (old : Writing T) (past more : Type 0) (fault : PutFault) (now : TargetView) → (past → more) → Loses view old past fault now → Loses view old more fault now
+loses_wider view old past more Target now wider lost = lost
+loses_wider view old past more Large now wider lost = (lost.0, wider lost.1)
+
+-- a failure at a part of so many bytes, after those before it: all of them are `whole` or more
+pub loses_part : {T : Type 0} (view : T → TargetView) (a b : Writing T) (front : List ℕ) (part whole : ℕ) (fault : PutFault) (now : TargetView)
+    → Puts view a front b → length front + part ≤ whole → Loses view b (most_bytes < b.size + part) fault now → Loses view a (most_bytes < a.size + whole) fault now
+loses_part view a b front part whole fault now puts within lost =
+    let size = puts.size in
+    loses_later view a b (option_map (λ (xs : List ℕ). xs ++ front) a.told_bytes) (a.size + length front) a.held (most_bytes < b.size + part) (most_bytes < a.size + whole) fault now puts lost (λ past. omega arith)
