@@ -1,0 +1,6 @@
+mod Made
+mod Runs
+mod LevelLaws
+mod Pieces
+mod PacketSteps
+mod LevelSteps
