@@ -12,3 +12,4 @@ pub mod Bodies
 pub mod Things
 pub mod Walking
 pub mod Verdicts
+pub mod Joined

@@ -1,5 +1,5 @@
 -- Laws of several calls in a row that write one file.
-use Rattle.std.proofs.Common.{◌≡◌, ℕ, ◌+◌, ◌/◌, ◌<◌, ◌≤◌, List, [], ◌++◌, length, Option, Some, None, refl, sym, ap, subst, ◌∙◌, arith, add-zero}
+use Rattle.std.proofs.Common.{◌≡◌, ℕ, ◌+◌, ◌/◌, ◌<◌, ◌≤◌, true, List, [], ◌++◌, length, Option, Some, None, refl, sym, ap, subst, ◌∙◌, arith, add-zero}
 use Rattle.std.specs.Option.{option_map}
 use Rattle.std.proofs.lemmas.List.{append_assoc, append-nil, length-append}
 use Rattle.e57_base.proofs.CountLaws.{rose_before}
@@ -49,6 +49,10 @@ loses_piece view old n Large new lost =
     let same : view new.target ≡ view old.target = ap view lost.target in
     let kept : KeepsTarget (view old.target) (view new.target) = subst (λ t. KeepsTarget (view old.target) t) (sym same) (keeps_none (view old.target)) in
     (record { unended = lost.unended; unfinished = lost.unfinished; target = kept }, lost.past)
+
+pub spent_piece : {T : Type 0} (view : T → TargetView) (old : Writing T) (n : ℕ) (fault : PutFault) (new : Writing T) → IsNotPut view old n fault new → new.is_spent ≡ true
+spent_piece view old n Target new lost = lost.1.spent
+spent_piece view old n Large new lost = lost.spent
 
 -- what a failure leaves after a call that was done
 pub leaves_later : {T : Type 0} (view : T → TargetView) (a b : Writing T) (now : TargetView) → KeepsTarget (view a.target) (view b.target) → Leaves view b now → Leaves view a now

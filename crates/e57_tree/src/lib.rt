@@ -15,5 +15,9 @@ mod rules;
 mod tree;
 mod vectors;
 
+pub use attributes::{element_type, value};
 pub use items::{Blob, Cloud, Item};
+pub use nodes::{child_named, end_of};
+pub use places::{copied_attr, node_with};
 pub use tree::Tree;
+pub use vectors::{has_section, is_field};

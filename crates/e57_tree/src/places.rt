@@ -68,7 +68,7 @@ fn copied(alloc: Global, node: &RawNode) -> Result<RawNode, AllocError>
 }
 
 /// A copy of a node with other attributes.
-fn node_with(alloc: Global, node: &RawNode, attrs: Attrs) -> Result<RawNode, AllocError>
+pub fn node_with(alloc: Global, node: &RawNode, attrs: Attrs) -> Result<RawNode, AllocError>
     ensures { IfOk result (λ new. new ≡ record { name = node.now.name; attrs = attrs; text = node.now.text; size = node.now.size }) }
 {
     Ok(RawNode {
@@ -80,7 +80,7 @@ fn node_with(alloc: Global, node: &RawNode, attrs: Attrs) -> Result<RawNode, All
 }
 
 /// A copy of an attribute.
-fn copied_attr(alloc: Global, attr: &Attr) -> Result<Attr, AllocError>
+pub fn copied_attr(alloc: Global, attr: &Attr) -> Result<Attr, AllocError>
     ensures { IfOk result (λ new. new ≡ attr.now) }
 {
     Ok(Attr {
