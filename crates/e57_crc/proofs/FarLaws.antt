@@ -38,7 +38,7 @@ fed_in-is n one zero x e = sym (ap (steps (n + 0)) (mod-one x) ∙ steps-of_zero
 fed_in-is n one (suc k) x e =
     let top : ℕ = x / 2 ^ k % 2 in
     let whole : bit_xor (top * 2 ^ k) (x % 2 ^ k) ≡ x % 2 ^ suc k =
-        xor_shifted top k (x % 2 ^ k) (mod_below x (2 ^ k) (pow_pos k)) ∙ sym (mod-pow-add x 1 k) ∙ ap (λ j. x % 2 ^ j) (one-add k) in
+    xor_shifted top k (x % 2 ^ k) (mod_below x (2 ^ k) (pow_pos k)) ∙ sym (mod-pow-add x 1 k) ∙ ap (λ j. x % 2 ^ j) (one-add k) in
     ap (λ r. step (bit_xor r (fed_in one k x))) (bit_comes n one k top e (omega arith))
     ∙ ap (λ r. step (bit_xor (steps (n + k) (top * 2 ^ k)) r)) (fed_in-is n one k x e)
     ∙ ap step (sym (steps-xor (n + k) (top * 2 ^ k) (x % 2 ^ k)))

@@ -151,6 +151,24 @@ mod tests {
         }
     }
 
+    /// Bytes of a payload: each `factor` more than the one before, modulo 251.
+    fn payload_of(factor: u8) -> [u8; PAYLOAD] {
+        let mut payload = [0u8; PAYLOAD];
+        for i in 0..PAYLOAD {
+            payload[i] = (i * factor as usize % 251) as u8;
+        }
+        payload
+    }
+
+    #[test]
+    fn payloads(rt: HostRuntime) {
+        for (factor, checksum) in [(0, 0xb641_cde2), (1, 0x2893_1a7c), (37, 0xc45b_c516)] {
+            let payload = payload_of(factor);
+            assert_eq!(rt; crc32c(&payload), checksum);
+            assert_eq!(rt; plain(&payload), checksum);
+        }
+    }
+
     #[test]
     fn words(rt: HostRuntime) {
         let mut page = [0x5au8; 1024];

@@ -167,9 +167,9 @@ module _ {T : Type 0} (view : T → TargetView) (chunks : List Entry) (level upp
   -- the last level was put
   pub last_done : (root : ℕ) → level.count ≤ 2048 → Puts view a (packets_of chunks level) b → place root ≡ Some a.size → Puts view a (packets_from chunks level a.size) b × (root ≡ root_from chunks level a.size)
   last_done root few puts here = (
-      subst (λ ps. Puts view a (packets_bytes ps) b) (sym (spelled-last chunks level a.size is few)) puts,
-      offset-place root a.size here ∙ ap physical (sym (root-last chunks level a.size is few)),
-    )
+    subst (λ ps. Puts view a (packets_bytes ps) b) (sym (spelled-last chunks level a.size is few)) puts,
+    offset-place root a.size here ∙ ap physical (sym (root-last chunks level a.size is few)),
+  )
 
   -- the failure of a level is that of all
   pub first_lost : (fault : PutFault) (now : TargetView) → Loses view a (most_bytes < a.size + length (packets_of chunks level)) fault now → Loses view a (most_bytes < a.size + length (packets_from chunks level a.size)) fault now
@@ -184,8 +184,8 @@ module _ {T : Type 0} (view : T → TargetView) (chunks : List Entry) (level upp
   more_done root many above puts later =
       let size = puts.size in
       let next : Puts view b (packets_from chunks (upper_level level a.size) (a.size + length (packets_of chunks level))) c × (root ≡ root_from chunks (upper_level level a.size) (a.size + length (packets_of chunks level)))
-          = subst (λ q. Puts view b (packets_from chunks (upper_level level a.size) q) c × (root ≡ root_from chunks (upper_level level a.size) q)) size
-          (subst (λ (u : Level). Puts view b (packets_from chunks u b.size) c × (root ≡ root_from chunks u b.size)) above later) in (
+      = subst (λ q. Puts view b (packets_from chunks (upper_level level a.size) q) c × (root ≡ root_from chunks (upper_level level a.size) q)) size
+      (subst (λ (u : Level). Puts view b (packets_from chunks u b.size) c × (root ≡ root_from chunks u b.size)) above later) in (
         subst (λ ps. Puts view a ps c) (sym (spelled-more chunks level a.size is many)) (puts_both view a b c (packets_of chunks level) (packets_from chunks (upper_level level a.size) (a.size + length (packets_of chunks level))) puts next.0),
         next.1 ∙ ap physical (sym (root-more chunks level a.size is many)),
       )
@@ -196,7 +196,7 @@ module _ {T : Type 0} (view : T → TargetView) (chunks : List Entry) (level upp
   more_lost fault now many above puts lost =
       let size = puts.size in
       let next : Loses view b (most_bytes < b.size + length (packets_from chunks (upper_level level a.size) (a.size + length (packets_of chunks level)))) fault now
-          = subst (λ q. Loses view b (most_bytes < b.size + length (packets_from chunks (upper_level level a.size) q)) fault now) size
-          (subst (λ (u : Level). Loses view b (most_bytes < b.size + length (packets_from chunks u b.size)) fault now) above lost) in
+      = subst (λ q. Loses view b (most_bytes < b.size + length (packets_from chunks (upper_level level a.size) q)) fault now) size
+      (subst (λ (u : Level). Loses view b (most_bytes < b.size + length (packets_from chunks u b.size)) fault now) above lost) in
       let both = ap (λ (xs : List ℕ). length xs) (spelled-more chunks level a.size is many) ∙ length-append (packets_of chunks level) (packets_from chunks (upper_level level a.size) (a.size + length (packets_of chunks level))) in
       loses_part view a b (packets_of chunks level) (length (packets_from chunks (upper_level level a.size) (a.size + length (packets_of chunks level)))) (length (packets_from chunks level a.size)) fault now puts (omega arith) next

@@ -31,12 +31,12 @@ module _ {T : Type 0} (view : T → TargetView) (chunks : List Entry) (level upp
 -- level 0 is that of the chunks' entries
 pub index_done : {T : Type 0} (view : T → TargetView) (chunks entries : List Entry) (level : Level) (n : ℕ) (a b : Writing T) (result : Result ℕ PutFault) → chunks ≡ entries → n ≡ length entries → level ≡ lowest_level n → PutsLevels view chunks level a result b
     → MatchResult result
-        (λ root. Puts view a (packets_bytes (index_spelled 5 0 a.size entries)) b × (root ≡ physical (root_place 5 0 a.size entries)))
-        (λ fault. (b.is_spent ≡ true) × Loses view a (most_bytes < a.size + length (packets_bytes (index_spelled 5 0 a.size entries))) fault (view b.target))
+    (λ root. Puts view a (packets_bytes (index_spelled 5 0 a.size entries)) b × (root ≡ physical (root_place 5 0 a.size entries)))
+    (λ fault. (b.is_spent ≡ true) × Loses view a (most_bytes < a.size + length (packets_bytes (index_spelled 5 0 a.size entries))) fault (view b.target))
 index_done view chunks entries level n a b result same count lowest done =
     let first : level ≡ lowest_level (length entries) = lowest ∙ ap lowest_level count in
     subst (λ (es : List Entry). MatchResult result
-      (λ root. Puts view a (packets_bytes (index_spelled 5 0 a.size es)) b × (root ≡ physical (root_place 5 0 a.size es)))
-      (λ fault. (b.is_spent ≡ true) × Loses view a (most_bytes < a.size + length (packets_bytes (index_spelled 5 0 a.size es))) fault (view b.target)))
+    (λ root. Puts view a (packets_bytes (index_spelled 5 0 a.size es)) b × (root ≡ physical (root_place 5 0 a.size es)))
+    (λ fault. (b.is_spent ≡ true) × Loses view a (most_bytes < a.size + length (packets_bytes (index_spelled 5 0 a.size es))) fault (view b.target)))
     (lowest-is entries)
     (subst (λ (l : Level). PutsLevels view entries l a result b) first (subst (λ (es : List Entry). PutsLevels view es level a result b) same done))

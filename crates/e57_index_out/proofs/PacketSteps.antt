@@ -24,11 +24,11 @@ module _ {T : Type 0} (view : T → TargetView) (chunks : List Entry) (level : L
   -- behind the heads the entries were put or not
   pub packet_done : {U : Type 0} (count : ℕ) (a b c : Writing T) (result : Result U PutFault) → count ≡ min 2048 (level.count - 2048 * j) → Puts view a (heads level.number count) b
       → MatchResult result
-          (λ _. Puts view b (flat_map entry_bytes (level_part chunks level (2048 * j) count)) c)
-          (λ fault. (c.is_spent ≡ true) × Loses view b (most_bytes < b.size + length (flat_map entry_bytes (level_part chunks level (2048 * j) count))) fault (view c.target))
+      (λ _. Puts view b (flat_map entry_bytes (level_part chunks level (2048 * j) count)) c)
+      (λ fault. (c.is_spent ≡ true) × Loses view b (most_bytes < b.size + length (flat_map entry_bytes (level_part chunks level (2048 * j) count))) fault (view c.target))
       → MatchResult result
-          (λ _. Puts view a (index_packet level.number (packet_entries chunks level j)) c)
-          (λ fault. (c.is_spent ≡ true) × Loses view a (most_bytes < a.size + length (index_packet level.number (packet_entries chunks level j))) fault (view c.target))
+      (λ _. Puts view a (index_packet level.number (packet_entries chunks level j)) c)
+      (λ fault. (c.is_spent ≡ true) × Loses view a (most_bytes < a.size + length (index_packet level.number (packet_entries chunks level j))) fault (view c.target))
   packet_done count a b c (Ok x) is puts later =
       subst (λ bytes. Puts view a bytes c) (sym (packet-is chunks level j count is)) (puts_both view a b c (heads level.number count) (flat_map entry_bytes (level_part chunks level (2048 * j) count)) puts later)
   packet_done count a b c (Err fault) is puts later =

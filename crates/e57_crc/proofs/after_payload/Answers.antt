@@ -5,14 +5,14 @@ use Rattle.e57_crc.proofs.RegisterLaws.{register-zero, register-eight, apart-zer
 use Rattle.e57_crc.proofs.after_payload.Goals as goal
 
 pub loop-i-init : goal.loop-i-init
-loop-i-init c = (sym (register-zero c.args.payload.now) , apart-zero c.args.payload.now 4032)
+loop-i-init c = (sym (register-zero c.args.payload.now), apart-zero c.args.payload.now 4032)
 
 pub loop-i-preserved : goal.loop-i-preserved
-loop-i-preserved c =
-    ( register-eight c.args.payload.now c.loop-i.i c.loop-i.first c.after_eight-first.result c.loop-i.invariant.0 c.after_eight-first.ensures
-    , apart-more c.args.payload.now 4032 (8 * (8 * c.loop-i.i)) 64 (8 * (504 + 8 * c.loop-i.i)) c.loop-i.last c.after_eight-last.result _
-    c.loop-i.invariant.1 (omega arith) (omega arith) c.after_eight-last.ensures
-    )
+loop-i-preserved c = (
+  register-eight c.args.payload.now c.loop-i.i c.loop-i.first c.after_eight-first.result c.loop-i.invariant.0 c.after_eight-first.ensures,
+  apart-more c.args.payload.now 4032 (8 * (8 * c.loop-i.i)) 64 (8 * (504 + 8 * c.loop-i.i)) c.loop-i.last c.after_eight-last.result _
+      c.loop-i.invariant.1 (omega arith) (omega arith) c.after_eight-last.ensures,
+)
 
 pub returns : goal.returns
 returns c =

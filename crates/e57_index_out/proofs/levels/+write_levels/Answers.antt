@@ -7,9 +7,9 @@ use Rattle.e57_index_out.proofs.levels.+write_levels.Goals as goal
 
 pub returns-in-Err : goal.returns-in-Err
 returns-in-Err g t c = (
-      c.in-Err.ensures.0,
-      first_lost g.T.Target.view c.args.chunks.now c.args.level.now c.args.level.now c.args.out.now c.args.out.now c.args.out.now c.requires.level c.in-Err.fault (g.T.Target.view c.write_level.new.out.target) c.in-Err.ensures.1,
-    )
+  c.in-Err.ensures.0,
+  first_lost g.T.Target.view c.args.chunks.now c.args.level.now c.args.level.now c.args.out.now c.args.out.now c.args.out.now c.requires.level c.in-Err.fault (g.T.Target.view c.write_level.new.out.target) c.in-Err.ensures.1,
+)
 
 pub returns-then-level-le-MOST_ENTRIES : goal.returns-then-level-le-MOST_ENTRIES
 returns-then-level-le-MOST_ENTRIES g t c =
@@ -19,8 +19,7 @@ pub write_levels-requires : goal.write_levels-requires
 write_levels-requires g t c κs within =
     let puts = c.in_default.ensures in
     let count = ap (λ (l : Level). l.count) c.above.ensures in
-    let less : c.above.result.count < c.args.level.now.count = omega arith in
-    (
+    let less : c.above.result.count < c.args.level.now.count = omega arith in (
       subst (λ n. c.above.result.count < n) c.decreases less,
       (within, (puts.state.unspent, upper_fits g.T.Target.view c.args.chunks.now c.args.level.now c.above.result c.args.out.now c.write_level.new.out c.requires.level c.if-level-le-MOST_ENTRIES.false (c.above.ensures ∙ ap (upper_level c.args.level.now) c.size-begin.ensures.size) puts)),
     )

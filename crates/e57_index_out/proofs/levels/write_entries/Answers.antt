@@ -17,8 +17,8 @@ returns-in-Err g c =
     let view = g.T.Target.view in (
       spent_piece view c.loop-k.out (length c.write_entry.new.out) c.in-Err.fault c.put.new.self c.in-Err.ensures.put,
       piece_lost view entry_bytes (level_entry c.args.chunks.now c.args.level.now) c.args.first c.args.out.now c.loop-k.out (c.loop-k.k - c.args.first) c.args.count c.loop-k.k c.write_entry.new.out c.in-Err.fault (view c.put.new.self.target)
-      (omega arith) (omega arith) (c.write_entry.ensures.bytes ∙ ap entry_bytes c.entry_of.ensures) c.loop-k.invariant
-      (loses_piece view c.loop-k.out (length c.write_entry.new.out) c.in-Err.fault c.put.new.self c.in-Err.ensures.put),
+          (omega arith) (omega arith) (c.write_entry.ensures.bytes ∙ ap entry_bytes c.entry_of.ensures) c.loop-k.invariant
+          (loses_piece view c.loop-k.out (length c.write_entry.new.out) c.in-Err.fault c.put.new.self c.in-Err.ensures.put),
     )
 
 pub loop-k-preserved : goal.loop-k-preserved

@@ -18,8 +18,8 @@ returns-in-Err g c =
     let packets = packet_entries c.args.chunks.now level in (
       c.in-Err.ensures.0,
       subst (λ bytes. Loses view c.args.out.now (most_bytes < c.args.out.now.size + length bytes) c.in-Err.fault (view c.write_packet.new.out.target)) (sym (level-bytes c.args.chunks.now level))
-      (piece_lost view (index_packet level.number) packets 0 c.args.out.now c.loop-j.out c.loop-j.j ((level.count + 2047) / 2048) c.loop-j.j (index_packet level.number (packets c.loop-j.j)) c.in-Err.fault (view c.write_packet.new.out.target)
-      (omega arith) (omega arith) refl c.loop-j.invariant c.in-Err.ensures.1),
+          (piece_lost view (index_packet level.number) packets 0 c.args.out.now c.loop-j.out c.loop-j.j ((level.count + 2047) / 2048) c.loop-j.j (index_packet level.number (packets c.loop-j.j)) c.in-Err.fault (view c.write_packet.new.out.target)
+          (omega arith) (omega arith) refl c.loop-j.invariant c.in-Err.ensures.1),
     )
 
 pub loop-j-preserved : goal.loop-j-preserved

@@ -3,9 +3,9 @@ use Rattle.e57_index_out.proofs.levels.write_packet.Goals as goal
 
 pub returns-in-Err : goal.returns-in-Err
 returns-in-Err g c = (
-      c.in-Err.ensures.0,
-      heads_lost g.T.Target.view c.args.chunks.now c.args.level.now c.args.j c.args.out.now c.in-Err.fault (g.T.Target.view c.write_heads.new.out.target) c.in-Err.ensures.1,
-    )
+  c.in-Err.ensures.0,
+  heads_lost g.T.Target.view c.args.chunks.now c.args.level.now c.args.j c.args.out.now c.in-Err.fault (g.T.Target.view c.write_heads.new.out.target) c.in-Err.ensures.1,
+)
 
 pub returns : goal.returns
 returns g c =
