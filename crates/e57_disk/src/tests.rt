@@ -1,14 +1,10 @@
-//! The real objects, each once, and the status of the process.
+//! The real objects over files of the disk.
 
 ghost use Rattle.std.specs.Prelude.{◌≡◌, ◌≤◌, ◌/◌, IsSomeAnd};
 
-use crate::answer;
-use crate::disk_source::DiskSource;
-use crate::disk_target::DiskTarget;
-use crate::std_sink::StdSink;
+use crate::{DiskSource, DiskTarget, StdSink};
 use e57_base::{Sink, Source, Target};
 use std::fs;
-use std::process::ExitCode;
 use std::test::*;
 
 // A file of pages, each filled with its number.
@@ -110,20 +106,4 @@ fn a_stream_takes_what_fits(rt: HostRuntime) {
     assert!(rt; sink.put(b"cde").is_err());
     drop(sink);
     assert_eq!(rt; room.as_slice(), b"abcd".as_slice());
-}
-
-#[test]
-fn the_status_is_that_of_the_run(rt: HostRuntime) -> Result<(), Fail> {
-    let mut words = Vec::new(rt.alloc());
-    words.push(String::from_str(rt.alloc(), "pages")?)?;
-    words.push(String::from_str(rt.alloc(), "absent")?)?;
-    let mut no_room = [0; 0];
-    let mut room = [0; 13];
-    let mut out = StdSink::new(no_room.as_mut_slice());
-    let mut err = StdSink::new(room.as_mut_slice());
-    let code = answer(&rt, Ok(words), &mut out, &mut err);
-    assert_eq!(rt; code, ExitCode::from(3));
-    drop(err);
-    assert_eq!(rt; room.as_slice(), b"source fault\n".as_slice());
-    Ok(())
 }
