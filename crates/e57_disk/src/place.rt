@@ -18,7 +18,11 @@ pub enum Place {
 }
 
 /// The place for a new file of this name, which may be absent, a regular file, a device, or a link to one of these two.
-pub fn find_place<R: Files<File = File>>(alloc: Global, files: &R, name: &str) -> io::Result<Place> {
+pub fn find_place<R: Files<File = File>>(
+    alloc: Global,
+    files: &R,
+    name: &str,
+) -> io::Result<Place> {
     if name.is_empty() {
         return Err(io::Error::from(ErrorKind::NotFound));
     }
@@ -57,11 +61,7 @@ fn place_at<R: Files<File = File>>(
 
 // The place for a new file of the name of a link: that of what it leads to. A link of the system to an open file, as
 // /dev/stdout, may lead to one that has no name any more.
-fn place_behind<R: Files<File = File>>(
-    alloc: Global,
-    files: &R,
-    name: &str,
-) -> io::Result<Place> {
+fn place_behind<R: Files<File = File>>(alloc: Global, files: &R, name: &str) -> io::Result<Place> {
     let metadata = fs::metadata(files, name)?;
     if !metadata.is_file() {
         return place_at(alloc, files, name, &metadata);
