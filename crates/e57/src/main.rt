@@ -1,21 +1,14 @@
 //! The program `e57`: makes the real objects, and runs the words of the command line over them.
 #![tactic(auto)]
 
-mod disk_source;
-mod disk_target;
-mod gathered;
-mod read_ahead;
-mod std_sink;
 #[cfg(test)]
 mod tests;
 
-use disk_source::DiskSource;
-use disk_target::DiskTarget;
 use e57_base::Sink;
+use e57_disk::{DiskSource, DiskTarget, StdSink};
 use e57_tool::{Status, run};
 use std::process::ExitCode;
 use std::{env, io};
-use std_sink::StdSink;
 
 // The words of the command line, without the program's name.
 fn words(rt: &HostRuntime) -> io::Result<Vec<String>> {

@@ -22,20 +22,23 @@ pub struct ReadAhead {
 }
 
 impl ReadAhead {
-    /// Nothing read yet. Memory for a run is taken here and never again.
+    /// Nothing read yet. Takes no memory.
     pub fn new(alloc: Global) -> Self {
         ReadAhead {
-            run: vec![in alloc; 0; 1024 * RUN_PAGES].unwrap_or(Vec::new(alloc)),
+            run: Vec::new(alloc),
             first: 0,
             pages: 0,
             next: None,
         }
     }
 
-    /// Forgets what was read, since another file is open.
-    pub fn forget(&mut self) {
+    /// Forgets what was read, since another file is open, and takes memory for a run if there is none yet.
+    pub fn start(&mut self) {
         self.pages = 0;
         self.next = None;
+        if self.run.is_empty() {
+            let _ = self.run.resize(1024 * RUN_PAGES, 0);
+        }
     }
 
     /// Reads page `n` of the file, and whether it could. If `n` follows the page asked for before, a run is read from

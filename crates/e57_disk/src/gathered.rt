@@ -22,18 +22,21 @@ pub struct Gathered {
 }
 
 impl Gathered {
-    /// No page yet. Memory for a run is taken here and never again.
+    /// No page yet. Takes no memory.
     pub fn new(alloc: Global) -> Self {
         Gathered {
-            run: vec![in alloc; 0; 1024 * RUN_PAGES].unwrap_or(Vec::new(alloc)),
+            run: Vec::new(alloc),
             first: 0,
             pages: 0,
         }
     }
 
-    /// Forgets the pages, since another file is created.
-    pub fn forget(&mut self) {
+    /// Forgets the pages, since another file is created, and takes memory for a run if there is none yet.
+    pub fn start(&mut self) {
         self.pages = 0;
+        if self.run.is_empty() {
+            let _ = self.run.resize(1024 * RUN_PAGES, 0);
+        }
     }
 
     /// Puts page `n` behind the others, and whether it could. If it doesn't follow them, or there is no room, they are
