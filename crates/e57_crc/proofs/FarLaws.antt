@@ -10,7 +10,7 @@ use Rattle.e57_crc.specs.Crc.{shifted}
 use Rattle.e57_crc.specs.Steps.{step, steps}
 use Rattle.e57_crc.proofs.StepLaws.{steps-zero, steps-suc, steps-xor, steps-add, steps-shifted}
 
--- The register of the lowest k bits of x, which go in one after another, where a bit 1 counts as one.
+-- The lowest k bits of x go in one after another, a bit 1 as the number one, with a step after each.
 unfoldable fed_in : ℕ → ℕ → ℕ → ℕ
 fed_in one zero x = 0
 fed_in one (suc k) x = step (bit_xor (x / 2 ^ k % 2 * one) (fed_in one k x))

@@ -2,7 +2,7 @@
 use Rattle.std.proofs.Common.{◌≡◌, ℕ, zero, suc, ◌+◌, ◌*◌, ◌/◌, ◌%◌, ◌^◌, ◌<◌, List, length, get_or, refl, sym, ap, ◌∙◌, arith, add-zero, add-suc, bit_xor}
 use Rattle.std.specs.Int.Bits.{xor_shr, xor_mod, xor_assoc, xor_comm, xor_zero_r, xor_shifted}
 use Rattle.e57_bits.specs.Bits.{bit, number}
-use Rattle.e57_bits.specs.BitLaws.{bit-lt, number-zero, number-suc, number-lt, number-byte}
+use Rattle.e57_bits.proofs.BitLaws.{bit-lt, number-zero, number-suc, number-lt, number-byte}
 use Rattle.e57_crc.specs.Crc.{shifted, register, crc}
 use Rattle.e57_crc.specs.Steps.{step, steps}
 use Rattle.e57_crc.proofs.StepLaws.{steps-zero, steps-suc, steps-xor, steps-shifted}

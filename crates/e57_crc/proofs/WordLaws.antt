@@ -4,7 +4,7 @@ use Rattle.std.proofs.lemmas.Bool.{cases_lt}
 use Rattle.std.specs.Int.{swap_bytes, w32}
 use Rattle.std.proofs.lemmas.List.{get_or-reverse, length-reverse, get_or-drop, get_or_past}
 use Rattle.e57_bits.specs.Bits.{number, le}
-use Rattle.e57_bits.specs.BitLaws.{number-byte, number-byte_first}
+use Rattle.e57_bits.proofs.BitLaws.{number-byte, number-byte_first}
 use Rattle.e57_crc.specs.Crc.{crc, is_right}
 
 -- the number in four bytes, the lowest first
