@@ -1,0 +1,14 @@
+pub mod Packing
+pub mod Strings
+pub mod Waits
+pub mod Joins
+pub mod Stepping
+pub mod Turning
+pub mod Kept
+pub mod Cuts
+pub mod PacketPuts
+pub mod Side
+pub mod Keeping
+pub mod Pouring
+pub mod Fronts
+pub mod Grouping

@@ -1,0 +1,14 @@
+use Rattle.std.proofs.Common.{length, ap, sym, ◌∙◌, arith}
+use Rattle.e57_chunk_out.specs.Waiting.{Waiting}
+use Rattle.e57_chunk_out.proofs.Kept.{pending-length}
+use Rattle.e57_chunk_out.proofs.field_out.FieldOut.take.Goals as goal
+
+pub written_size-size-requires-clause-there : goal.written_size-size-requires-clause-there
+written_size-size-requires-clause-there c =
+    let size = ap (λ (w : Waiting). length w.items) (sym c.self.view_is) ∙ pending-length c.self.inside.pending c.self.inside.until c.self.invariant.pending in
+    omega (arith, size, c.requires.there)
+
+pub append-requires-clause-there : goal.append-requires-clause-there
+append-requires-clause-there c =
+    let size = ap (λ (w : Waiting). length w.items) (sym c.self.view_is) ∙ pending-length c.self.inside.pending c.self.inside.until c.self.invariant.pending in
+    omega (arith, size, c.requires.there)

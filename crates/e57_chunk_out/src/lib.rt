@@ -1,0 +1,11 @@
+//! A cloud's records, written as a compressed vector section (ASTM E2807, compressed vector binary sections): records are
+//! gathered into groups of eight, groups into packets, packets into chunks, and an index of the chunks stands behind them.
+#![tactic(auto)]
+
+mod bytes;
+mod field_out;
+mod fields;
+mod packet;
+mod pending;
+mod pour;
+mod texts;

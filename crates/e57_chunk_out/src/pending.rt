@@ -1,0 +1,190 @@
+//! Items of one field that wait.
+
+ghost use Rattle.std.specs.Prelude.{FitsSigned, ◌^◌, ◌≡◌, ◌⊎◌, ℕ, ◌+◌, ◌-◌, ◌*◌, ◌/◌, ◌<◌, ◌≤◌, ◌≤ℤ◌, ◌++◌, List, [], ◌∷◌, length, map, take, drop, slice_index_or, IfOk};
+ghost use Rattle.std.specs.Int.{w64};
+ghost use Rattle.e57_layout.specs.Values.{item_kind, IsValidField, ItemKind, Value, IsKind};
+ghost use Rattle.e57_layout.specs.Widths.{width as width_of};
+ghost use Rattle.e57_layout.specs.Items.{AreItems, field_bytes};
+ghost use Rattle.e57_chunk_out.specs.Texts.{AreEnds};
+ghost use Rattle.e57_chunk_out.specs.Waiting.{kind_in, items_in, part, IsPending};
+
+use crate::bytes::clear;
+use crate::texts::{all_texts_size, write_texts};
+use byteorder::{ByteOrder, LittleEndian};
+use e57_lanes::pack;
+use e57_layout::{Field, FieldKind};
+use std::alloc::{AllocError, Global};
+
+/// How many items wait at most: seven of the blocks before, and 1024 of a block.
+pub const PLACES: usize = 1031;
+
+/// Items of one field, in a row from the front.
+#[derive(Drop)]
+pub enum Pending {
+    /// Integers within limits, scaled or not, and how many bits one has.
+    Ints {
+        min: i64,
+        max: i64,
+        width: u8,
+        items: Vec<i64>,
+    },
+    /// Floating point numbers of 32 bits, as words.
+    Bits32 {
+        items: Vec<u32>,
+    },
+    /// Floating point numbers of 64 bits, as words.
+    Bits64 {
+        items: Vec<u64>,
+    },
+    /// Strings, one behind another, and where each of them ends in the bytes.
+    Texts {
+        bytes: Vec<u8>,
+        ends: Vec<u64>,
+    },
+}
+
+/// Places for the items of a field.
+pub fn new_pending(alloc: Global, field: &Field) -> Result<Pending, AllocError>
+    requires valid { IsValidField field.now }
+    ensures kind { IfOk result (λ pending. kind_in pending ≡ item_kind field.now.kind) }
+    ensures none { IfOk result (λ pending. items_in pending 0 ≡ []) }
+    ensures is { IfOk result (λ pending. IsPending pending 0) }
+{
+    match field.kind {
+        FieldKind::Int { min, max } => new_ints(alloc, min, max, field.width),
+        FieldKind::Scaled { min, max, .. } => new_ints(alloc, min, max, field.width),
+        FieldKind::Bits32 => {
+            let items = vec![in alloc; 0; PLACES]?;
+            Ok(Pending::Bits32 { items })
+        }
+        FieldKind::Bits64 => {
+            let items = vec![in alloc; 0; PLACES]?;
+            Ok(Pending::Bits64 { items })
+        }
+        FieldKind::Text => new_texts(alloc),
+    }
+}
+
+/// Places for integers within limits.
+fn new_ints(alloc: Global, min: i64, max: i64, width: u8) -> Result<Pending, AllocError>
+    requires order { min ≤ℤ max }
+    requires fits { width ≡ width_of min max }
+    ensures kind { IfOk result (λ pending. kind_in pending ≡ ItemKind.integers min max) }
+    ensures none { IfOk result (λ pending. items_in pending 0 ≡ []) }
+    ensures is { IfOk result (λ pending. IsPending pending 0) }
+{
+    let items = vec![in alloc; 0; PLACES]?;
+    Ok(Pending::Ints {
+        min,
+        max,
+        width,
+        items,
+    })
+}
+
+/// Places for strings.
+#[tactic(auto, unfolding(crate::specs::Texts::strings_at, crate::specs::Texts::AreEnds))]
+fn new_texts(alloc: Global) -> Result<Pending, AllocError>
+    ensures kind { IfOk result (λ pending. kind_in pending ≡ ItemKind.strings) }
+    ensures none { IfOk result (λ pending. items_in pending 0 ≡ []) }
+    ensures is { IfOk result (λ pending. IsPending pending 0) }
+{
+    let ends = vec![in alloc; 0; PLACES]?;
+    Ok(Pending::Texts {
+        bytes: Vec::new(alloc),
+        ends,
+    })
+}
+
+/// How many bytes `n` items from `from` on have as they are written.
+pub fn written_size(pending: &Pending, from: usize, n: usize, until: usize) -> usize
+    requires pending { IsPending pending.now until }
+    requires there { from + n ≤ until }
+    ensures size { result ≡ length (field_bytes (kind_in pending.now) (part from n (items_in pending.now until))) }
+    ensures few { result ≤ 2 ^ 35 }
+{
+    match pending {
+        Pending::Ints { width, .. } => ints_size(*width, n),
+        Pending::Bits32 { .. } => 4 * n,
+        Pending::Bits64 { .. } => 8 * n,
+        Pending::Texts { bytes, ends } => all_texts_size(
+            bytes,
+            begin_of(ends, from),
+            &ends[from..from + n],
+        ),
+    }
+}
+
+/// How many bytes `n` integers have.
+fn ints_size(width: u8, n: usize) -> usize
+    requires { n ≤ 1031 }
+    ensures size { result ≡ (width * n + 7) / 8 }
+    ensures few { result ≤ 2 ^ 20 }
+{
+    (width as usize * n + 7) / 8
+}
+
+/// Writes `n` items from `from` on. They fill `out`.
+pub fn write_items(pending: &Pending, from: usize, n: usize, until: usize, out: &mut [u8])
+    requires pending { IsPending pending.now until }
+    requires there { from + n ≤ until }
+    requires room { length out.old ≡ length (field_bytes (kind_in pending.now) (part from n (items_in pending.now until))) }
+    ensures { out.new ≡ field_bytes (kind_in pending.now) (part from n (items_in pending.now until)) }
+{
+    match pending {
+        Pending::Ints {
+            min,
+            max,
+            width,
+            items,
+        } => write_ints(&items[from..from + n], min, max, *width, out),
+        Pending::Bits32 { items } => write_words(&items[from..from + n], out),
+        Pending::Bits64 { items } => write_long_words(&items[from..from + n], out),
+        Pending::Texts { bytes, ends } => write_texts(
+            bytes,
+            begin_of(ends, from),
+            &ends[from..from + n],
+            out,
+        ),
+    }
+}
+
+/// Writes integers as bit fields, with zero bits up to the last byte's end.
+fn write_ints(values: &[i64], min: &i64, max: &i64, width: u8, out: &mut [u8])
+    requires kind { IsKind (ItemKind.integers min.now max.now) }
+    requires least { FitsSigned w64 min.now }
+    requires fits { width ≡ width_of min.now max.now }
+    requires items { AreItems (ItemKind.integers min.now max.now) (map Value.whole values.now) }
+    requires room { length out.old ≡ length (field_bytes (ItemKind.integers min.now max.now) (map Value.whole values.now)) }
+    ensures { out.new ≡ field_bytes (ItemKind.integers min.now max.now) (map Value.whole values.now) }
+{
+    clear(out);
+    pack(values, *min, width, 0, out);
+}
+
+/// Writes words of 32 bits.
+fn write_words(values: &[u32], out: &mut [u8])
+    requires room { length out.old ≡ length (field_bytes (ItemKind.words 32) (map Value.word values.now)) }
+    ensures { out.new ≡ field_bytes (ItemKind.words 32) (map Value.word values.now) }
+{
+    LittleEndian::write_u32_into(values, out);
+}
+
+/// Writes words of 64 bits.
+fn write_long_words(values: &[u64], out: &mut [u8])
+    requires room { length out.old ≡ length (field_bytes (ItemKind.words 64) (map Value.word values.now)) }
+    ensures { out.new ≡ field_bytes (ItemKind.words 64) (map Value.word values.now) }
+{
+    LittleEndian::write_u64_into(values, out);
+}
+
+/// Where string `k` begins.
+fn begin_of(ends: &[u64], k: usize) -> usize
+    requires { k ≤ length ends.now }
+    ensures { result ≡ slice_index_or (0 ∷ ends.now) k 0 }
+{
+    if k == 0 {
+        return 0;
+    }
+    ends[k - 1] as usize
+}

@@ -1,0 +1,14 @@
+mod Again
+mod Denominators
+mod Forms
+mod Fronts
+mod Lines
+mod Magnitudes
+mod Places
+mod Same
+mod Signs
+mod Spelled
+mod Tens
+mod Texts
+mod Wholes
+mod Zeros

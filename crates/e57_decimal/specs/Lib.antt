@@ -1,0 +1,7 @@
+pub mod Fractions
+pub mod Reading
+pub mod Viewing
+pub mod Gathering
+pub mod Holding
+pub mod Writing
+pub mod Scaling

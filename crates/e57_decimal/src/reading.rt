@@ -1,0 +1,60 @@
+//! Decimals in texts.
+
+ghost use Rattle.std.specs.Prelude.{◌≡◌, ◌+◌, ◌%◌, ◌<◌, ◌≤◌, ⊤, ℤ, pos, neg_ℤ, ◌≤ℤ◌, ◌⊎◌, unsigned_abs, ◌+ℤ◌, MatchOption};
+ghost use Rattle.e57_decimal.specs.Fractions.{Fraction, IsDecimal, IsSame, fraction_of, limit, signed as signed_number};
+ghost use Rattle.e57_decimal.specs.Reading.{HasValue, IsReadAs};
+
+use crate::gathering::number_of_digits;
+use crate::parts::split_parts;
+use crate::powers::{SHIFT_LIMIT, signed};
+use crate::values::Decimal;
+
+/// `up - down` as a shift, if its magnitude is at most 60.
+fn shift_of(up: u128, down: u128) -> Option<i16>
+    ensures { MatchOption result ((up + 60 < down) ⊎ (down + 60 < up)) (λ s. (neg_ℤ (pos 60) ≤ℤ s) × (s ≤ℤ pos 60) × (unsigned_abs (s +ℤ pos 60) + down ≡ up + 60)) }
+{
+    if up >= down {
+        let raised = up - down;
+        if raised > u128::from(SHIFT_LIMIT) {
+            return None;
+        }
+        Some(raised as i16)
+    } else {
+        let lowered = down - up;
+        if lowered > u128::from(SHIFT_LIMIT) {
+            return None;
+        }
+        Some(-(lowered as i16))
+    }
+}
+
+/// The decimal of the value `magnitude * 10^up / 10^down`, with a sign, if there is one.
+fn decimal_of(negative: bool, magnitude: u128, up: u128, down: u128) -> Option<Decimal>
+    requires within { magnitude ≤ limit }
+    requires tens { magnitude % 10 ≡ 0 → magnitude ≡ 0 }
+    ensures { let x : Fraction = record { whole = signed_number negative magnitude; up = up; down = down } in MatchOption result ((d : Decimal) → IsDecimal d → IsSame x (fraction_of d) → ⊥) (λ d. IsDecimal d × IsSame x (fraction_of d)) }
+{
+    if magnitude == 0 {
+        return Some(Decimal { whole: 0, shift: 0 });
+    }
+    let shift = shift_of(up, down)?;
+    Some(Decimal {
+        whole: signed(negative, magnitude),
+        shift,
+    })
+}
+
+/// The decimal whose value a decimal text has. Without white space at its ends (space, tab, carriage return, line feed)
+/// such a text is an optional `-` or `+`, digits with at most one `.` among them, before or after them, at least one
+/// digit, and perhaps `e` or `E`, an optional sign and 1 to 5 digits.
+///
+/// None if the text isn't such a text, or no decimal has its value.
+pub fn read_decimal(text: &[u8]) -> Option<Decimal>
+    ensures { MatchOption result ((d : Decimal) → IsReadAs text.now d → ⊥) (λ d. IsReadAs text.now d) }
+{
+    let parts = split_parts(text)?;
+    let number = number_of_digits(parts.whole, parts.places)?;
+    let up = u128::from(number.zeros) + u128::from(parts.raised);
+    let down = parts.places.len() as u128 + u128::from(parts.lowered);
+    decimal_of(parts.negative, number.magnitude, up, down)
+}
