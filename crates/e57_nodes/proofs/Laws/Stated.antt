@@ -87,7 +87,7 @@ unfolding stated_item facts_of
 one_element n name attrs text children = one_each (node_at n (shape_of (element name attrs text children))) (type_in attrs) (record { name = name; attrs = attrs; text = text; size = length (preorder_all children) + 1 }) refl
 
 mutual
-  as_many : (e : Element) (n : ℕ) → length (filter_map stated_item (nodes_from n (shape_of e))) ≡ item_count (preorder e)
+  pub as_many : (e : Element) (n : ℕ) → length (filter_map stated_item (nodes_from n (shape_of e))) ≡ item_count (preorder e)
   as_many (element name attrs text children) n =
       let node : RawNode = record { name = name; attrs = attrs; text = text; size = length (preorder_all children) + 1 } in
       let one = one_element n name attrs text children in
@@ -97,7 +97,7 @@ mutual
       ∙ ap (λ k. length (cons_option (stated_place node) []) + k) later
       ∙ sym (length-before (stated_place node) (filter_map stated_place (preorder_all children)))
 
-  as_many_all : (es : Elements) (n : ℕ) → length (filter_map stated_item (nodes_from_all n (shapes_of es))) ≡ item_count (preorder_all es)
+  pub as_many_all : (es : Elements) (n : ℕ) → length (filter_map stated_item (nodes_from_all n (shapes_of es))) ≡ item_count (preorder_all es)
   as_many_all none n = refl
   as_many_all (more e es) n =
       let first = as_many e n in

@@ -106,7 +106,7 @@ mutual
 
 -- ---- what a change keeps
 
-distinct-names : (ss ts : Shapes) (earlier : List (List ℕ)) → names_in ts ≡ names_in ss → AreDistinct earlier ss → AreDistinct earlier ts
+pub distinct-names : (ss ts : Shapes) (earlier : List (List ℕ)) → names_in ts ≡ names_in ss → AreDistinct earlier ss → AreDistinct earlier ts
 distinct-names no_shapes no_shapes earlier same are = tt
 distinct-names no_shapes (shapes t ts) earlier same are = absurd (cc)
 distinct-names (shapes s ss) no_shapes earlier same are = absurd (cc)
@@ -134,7 +134,7 @@ pub record AreChanged (k : ℕ) (keep : List Bool) (count : ℕ) (es xs : Elemen
 
 -- ---- the cloud itself
 
-count-attrs : (count : ℕ) (t : Option ElementType) (facts : Facts) → attr_fault 0 t facts ≡ None → attr_fault 0 t (with_count count facts) ≡ None
+pub count-attrs : (count : ℕ) (t : Option ElementType) (facts : Facts) → attr_fault 0 t facts ≡ None → attr_fault 0 t (with_count count facts) ≡ None
 unfolding attr_fault
 count-attrs count None facts free = refl
 count-attrs count (Some element_type.Structure) facts free = refl
@@ -147,7 +147,7 @@ count-attrs count (Some element_type.Float) facts free = free
 count-attrs count (Some element_type.String) facts free = refl
 count-attrs count (Some element_type.Blob) facts free = free
 
-count-limits : (count : ℕ) (t : Option ElementType) (facts : Facts) → limits_fault 0 t facts ≡ None → limits_fault 0 t (with_count count facts) ≡ None
+pub count-limits : (count : ℕ) (t : Option ElementType) (facts : Facts) → limits_fault 0 t facts ≡ None → limits_fault 0 t (with_count count facts) ≡ None
 unfolding limits_fault
 count-limits count None facts free = refl
 count-limits count (Some element_type.Structure) facts free = refl
@@ -163,7 +163,7 @@ not-false : (b : Bool) → not b ≡ false → b ≡ true
 not-false true e = refl
 not-false false e = absurd (cc)
 
-count-there : (facts : Facts) → attr_fault 0 (Some element_type.CompressedVector) facts ≡ None → is_some facts.record_count ≡ true
+pub count-there : (facts : Facts) → attr_fault 0 (Some element_type.CompressedVector) facts ≡ None → is_some facts.record_count ≡ true
 unfolding attr_fault
 count-there facts free =
     not-false (is_some facts.record_count) (when-none (not (is_some facts.record_count)) (fault kind.NodeAttr 0 5) (option_or-none (when (not facts.has_place) (fault kind.NodeAttr 0 4)) (unread 0 5 facts.record_count) free).1)

@@ -113,7 +113,7 @@ kinds-are k (stated_blob n size ∷ items) = kinds-are k items
 kinds-are zero (stated_cloud n count fields ∷ items) = refl
 kinds-are (suc k) (stated_cloud n count fields ∷ items) = kinds-are k items
 
-keeps-of : (selection : Selection) (content : Content) → Selects selection content → KeepsOf selection.cloud selection.fields (forms_at (shape_of content.tree))
+pub keeps-of : (selection : Selection) (content : Content) → Selects selection content → KeepsOf selection.cloud selection.fields (forms_at (shape_of content.tree))
 keeps-of selection content selects =
     let kinds = ap (form_kinds selection.cloud) (sym (stated-forms (shape_of content.tree))) ∙ kinds-are selection.cloud (items_in content) in
     subst (λ (ks : List ItemKind). 0 < length (chosen selection.fields ks)) (sym kinds)

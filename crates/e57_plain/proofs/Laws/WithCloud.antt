@@ -301,7 +301,7 @@ with_count count facts = record {
   is_integer = facts.is_integer;
 }
 
-count-read : (found : Option (List ℕ)) (count : ℕ) → count < 2 ^ 64 → is_some (option_and_then unsigned_in found) ≡ true → option_and_then unsigned_in (option_map (λ _. decimal count) found) ≡ Some count
+pub count-read : (found : Option (List ℕ)) (count : ℕ) → count < 2 ^ 64 → is_some (option_and_then unsigned_in found) ≡ true → option_and_then unsigned_in (option_map (λ _. decimal count) found) ≡ Some count
 count-read None count small is = absurd (cc)
 count-read (Some value) count small is = unsigned_in-decimal count small
 

@@ -1,0 +1,13 @@
+mod Lists
+mod Valued
+mod Planned
+mod Counted
+mod Edited
+mod Limited
+mod Pruning
+mod Choosing
+mod Chosen
+mod Clouds
+mod OneCloud
+mod Recounted
+mod Recounting
