@@ -118,7 +118,8 @@ fn keep<R: Files<File = File>>(files: &R, file: &File, part: &Option<Part>) -> i
 impl<R: Files<File = File>> Target for DiskTarget<'_, R> {
     ghost view = { file_view };
 
-    /// Creates the file of this name, beside what has the name or in place. It fails where neither can be.
+    /// Creates the file of this name, beside what has the name or in place. It fails where neither can be, or there is no
+    /// memory for the names.
     fn create(&mut self, name: &str) -> Result<(), Failed>
         ensures creates { Creates (file_view self.old) name.now result (file_view self.new) }
         ensures after { self.new ≡ file_created result self.new.beside self.old }

@@ -1,5 +1,9 @@
 //! Where the bytes of a new file of the disk are written.
 
+ghost use Rattle.std.specs.Prelude.{IfOk};
+ghost use Rattle.std.specs.Fs.{metadata_mode, file_type, IsFile};
+ghost use Rattle.e57_disk.specs.Place.{permissions, TakesPlaceOf};
+
 use std::alloc::Global;
 use std::fs::{File, Metadata, OpenOptions};
 use std::io::ErrorKind;
@@ -10,8 +14,8 @@ use std::{fs, io};
 /// Where the bytes of a new file are written.
 #[derive(Drop)]
 pub enum Place {
-    /// Beside the file of this name, whose place they take at the end. The mode is that of the old file, where there is
-    /// one.
+    /// Beside the file of this name, whose place they take at the end. `mode` has the permissions of the old file, where
+    /// there is one.
     Beside { out: String, mode: Option<u32> },
     /// Into what has the name: a device, or a file that has no name any more.
     InPlace,
@@ -44,12 +48,14 @@ fn place_at<R: Files<File = File>>(
     files: &R,
     name: &str,
     metadata: &Metadata,
-) -> io::Result<Place> {
+) -> io::Result<Place>
+    ensures { IsFile (file_type metadata.now) → IfOk result (TakesPlaceOf name.now (permissions (metadata_mode metadata.now))) }
+{
     if metadata.is_file() {
         OpenOptions::new().write(true).open(files, name)?;
         return Ok(Place::Beside {
             out: String::from_str(alloc, name)?,
-            mode: Some(metadata.mode()),
+            mode: Some(metadata.mode() & 0o777),
         });
     }
     let kind = metadata.file_type();

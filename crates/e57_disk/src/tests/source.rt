@@ -11,7 +11,7 @@ use std::test::*;
 use std::{fs, io};
 
 // Reads these pages, and answers the first that failed or isn't filled with its number.
-fn first_wrong<S: Source>(source: &mut S, order: &[u8]) -> Option<u8>
+pub fn first_wrong<S: Source>(source: &mut S, order: &[u8]) -> Option<u8>
     requires { IsSomeAnd (S.view source.old).size (λ size. 140 ≤ size / 1024) }
     ensures { (S.view source.new).size ≡ (S.view source.old).size }
 {

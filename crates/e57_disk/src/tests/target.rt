@@ -3,6 +3,7 @@
 ghost use Rattle.std.specs.Prelude.{◌≡◌, Some, OnOk};
 
 use super::no_room::NoRoom;
+use super::source::first_wrong;
 use super::{pages, write_pages};
 use crate::{DiskSource, DiskTarget};
 use e57_base::{Failed, Source, Target};
@@ -30,6 +31,36 @@ fn is_kept(rt: &HostRuntime, name: &str) -> io::Result<bool> {
     Ok(fs::read(rt, name)?.as_slice() == b"old".as_slice() && !fs::exists(rt, PART)?)
 }
 
+// 70 pages, each filled with its number, but for three of them.
+fn changed_pages(rt: &HostRuntime) -> Result<Vec<u8>, Fail> {
+    let mut bytes = Vec::new(rt.alloc());
+    for n in 0..70u8 {
+        let byte = match n {
+            0 => 103,
+            3 => 104,
+            69 => 101,
+            _ => n,
+        };
+        bytes.resize(1024 * (n as usize + 1), byte)?;
+    }
+    Ok(bytes)
+}
+
+// Writes 70 pages, and whether they stood in the part until the end, and then where they belong.
+fn is_written(rt: &HostRuntime, name: &str, lies_at: &str, part: &str) -> Result<bool, Fail> {
+    let mut target = DiskTarget::new(rt.alloc(), rt);
+    put_pages(&mut target, name, 70)?;
+    target.put_page(69, &[101; 1024])?;
+    target.put_page(3, &[102; 1024])?;
+    target.put_page(0, &[103; 1024])?;
+    target.put_page(3, &[104; 1024])?;
+    let stood_beside = fs::exists(rt, part)?;
+    target.finish()?;
+    let is_left = fs::exists(rt, part)?;
+    let written = fs::read(rt, lies_at)?;
+    Ok(stood_beside && !is_left && written.as_slice() == changed_pages(rt)?.as_slice())
+}
+
 #[test]
 fn a_new_file_takes_its_name_at_the_end(rt: HostRuntime) -> Result<(), Fail> {
     fs::create_dir(&rt, "folder")?;
@@ -41,32 +72,15 @@ fn a_new_file_takes_its_name_at_the_end(rt: HostRuntime) -> Result<(), Fail> {
     symlink(&rt, "link", "further")?;
     // A part that a killed process left.
     fs::write(&rt, PART, "left")?;
-    let mut target = DiskTarget::new(rt.alloc(), &rt);
     for (name, lies_at, part) in [
         ("new", "new", ".e57-1.part"),
         ("./old", "old", ".e57-1.part"),
         ("further", "folder/old", "folder/.e57-0.part"),
     ] {
-        put_pages(&mut target, name, 70)?;
-        // Pages that were put before, in other order.
-        for (n, byte) in [(69, 1), (3, 2), (0, 3), (3, 4)] {
-            target.put_page(n, &[byte; 1024])?;
-        }
-        assert!(rt; fs::exists(&rt, part)?, "the part of {name}");
-        target.finish()?;
-        assert!(rt; !fs::exists(&rt, part)?, "the part of {name} is left");
-        let mut expected = pages(&rt, 70)?;
-        for (n, byte) in [(69, 1), (0, 3), (3, 4)] {
-            let (_, page) = expected.split_at_mut(1024 * n);
-            page.split_at_mut(1024).0.fill(byte);
-        }
-        assert!(rt;
-            fs::read(&rt, lies_at)?.as_slice() == expected.as_slice(),
-            "{name}"
-        );
+        assert!(rt; is_written(&rt, name, lies_at, part)?, "{name}");
     }
-    for (name, mode) in [("old", 0o604), ("folder/old", 0o604)] {
-        assert_eq!(rt; fs::metadata(&rt, name)?.mode() & 0o7777, mode);
+    for name in ["old", "folder/old"] {
+        assert_eq!(rt; fs::metadata(&rt, name)?.mode() & 0o7777, 0o604);
     }
     assert!(rt; fs::symlink_metadata(&rt, "link")?.is_symlink());
     assert_eq!(rt; fs::read(&rt, PART)?.as_slice(), b"left".as_slice());
@@ -110,28 +124,27 @@ fn the_old_file_is_kept_whatever_fails(rt: HostRuntime) -> Result<(), Fail> {
 #[test]
 fn a_file_is_read_while_it_is_written_anew(rt: HostRuntime) -> Result<(), Fail> {
     for (name, is_link) in [("hard", false), ("link", true)] {
-        write_pages(&rt, "scan", 100)?;
+        write_pages(&rt, "scan", 140)?;
         if is_link {
             symlink(&rt, "scan", name)?;
         } else {
             fs::hard_link(&rt, "scan", name)?;
         }
         let mut source = DiskSource::new(rt.alloc(), &rt);
-        let mut target = DiskTarget::new(rt.alloc(), &rt);
         let size = source.open("scan")?;
-        assert_eq!(rt; size, 1024 * 100);
+        assert_eq!(rt; size, 1024 * 140);
+        let mut target = DiskTarget::new(rt.alloc(), &rt);
         put_pages(&mut target, name, 2)?;
-        let mut page = [0; 1024];
-        for n in (1..100).rev() {
-            source.read_page(n, &mut page)?;
-            assert_eq!(rt; page.as_slice(), [n as u8; 1024].as_slice());
-        }
+        assert_eq!(rt; first_wrong(&mut source, &[139, 138, 3, 0]), None, "{name}");
         target.finish()?;
-        let left = if is_link { 2 } else { 100 };
+        assert_eq!(rt;
+            first_wrong(&mut source, &[1, 2, 3, 80, 139]),
+            None,
+            "{name}"
+        );
+        let left = if is_link { 2 } else { 140 };
         assert!(rt; fs::read(&rt, "scan")?.as_slice() == pages(&rt, left)?.as_slice());
         assert!(rt; fs::read(&rt, name)?.as_slice() == pages(&rt, 2)?.as_slice());
-        source.read_page(0, &mut page)?;
-        assert_eq!(rt; page.as_slice(), [0; 1024].as_slice());
     }
     Ok(())
 }

@@ -1,0 +1,5 @@
+pub mod Finished
+mod ClosingSteps
+pub mod InARow
+mod Spans
+mod CopySteps
