@@ -4,8 +4,14 @@ mod no_room;
 mod source;
 mod target;
 
-use std::fs;
 use std::test::*;
+use std::{fs, io};
+
+// An empty folder of this name: tests share the folder that they run in.
+fn empty_folder(rt: &HostRuntime, name: &str) -> io::Result<()> {
+    let _ = fs::remove_dir_all(rt, name);
+    fs::create_dir(rt, name)
+}
 
 // So many pages, each filled with its number.
 fn pages(rt: &HostRuntime, count: u8) -> Result<Vec<u8>, Fail> {

@@ -2,7 +2,7 @@
 
 ghost use Rattle.std.specs.Prelude.{◌≡◌, ◌≤◌, ◌/◌, IsSomeAnd};
 
-use super::write_pages;
+use super::{empty_folder, write_pages};
 use crate::{DiskSource, StdSink};
 use e57_base::{Failed, Sink, Source};
 use std::os::fd::AsRawFd;
@@ -42,35 +42,37 @@ fn a_file_of_the_disk_is_read_by_pages(rt: HostRuntime) -> Result<(), Fail> {
     assert!(rt; source.read_page(70, &mut page).is_err());
     assert!(rt; source.read_page(71, &mut page).is_err());
     assert!(rt; source.read_page(139, &mut page).is_err());
+    fs::remove_file(&rt, "scan")?;
     Ok(())
 }
 
 #[test]
 fn only_a_regular_file_is_opened(rt: HostRuntime) -> Result<(), Fail> {
-    fs::write(&rt, "scan", "1234567")?;
-    fs::create_dir(&rt, "folder")?;
-    symlink(&rt, "scan", "link")?;
-    symlink(&rt, "absent", "dangling")?;
-    symlink(&rt, "/dev/zero", "zero")?;
+    empty_folder(&rt, "kinds")?;
+    fs::write(&rt, "kinds/scan", "1234567")?;
+    symlink(&rt, "scan", "kinds/link")?;
+    symlink(&rt, "absent", "kinds/dangling")?;
+    symlink(&rt, "/dev/zero", "kinds/zero")?;
     // A pipe that nobody writes to.
     let (reader, writer) = io::pipe(&rt)?;
     let pipe = format!(in rt.alloc(); "/proc/self/fd/{}", reader.as_raw_fd())?;
     drop(writer);
     let mut source = DiskSource::new(rt.alloc(), &rt);
     for (name, size) in [
-        ("scan", Ok(7)),
-        ("link", Ok(7)),
-        ("absent", Err(Failed)),
-        ("dangling", Err(Failed)),
+        ("kinds/scan", Ok(7)),
+        ("kinds/link", Ok(7)),
+        ("kinds/absent", Err(Failed)),
+        ("kinds/dangling", Err(Failed)),
         ("", Err(Failed)),
-        ("folder", Err(Failed)),
+        ("kinds", Err(Failed)),
         ("/dev/null", Err(Failed)),
-        ("zero", Err(Failed)),
+        ("kinds/zero", Err(Failed)),
         (pipe.as_str(), Err(Failed)),
     ] {
         let opened = source.open(name);
         assert_eq!(rt; opened, size, "of {name}");
     }
+    fs::remove_dir_all(&rt, "kinds")?;
     Ok(())
 }
 
@@ -92,6 +94,7 @@ fn the_rest_of_a_file_of_the_disk_is_read(rt: HostRuntime) -> Result<(), Fail> {
     // The file is cut short.
     fs::write(&rt, "rows", [7; 1400].as_slice())?;
     assert!(rt; source.read_rest(&mut page).is_err());
+    fs::remove_file(&rt, "rows")?;
     Ok(())
 }
 

@@ -4,16 +4,14 @@ ghost use Rattle.std.specs.Prelude.{◌≡◌, Some, OnOk};
 
 use super::no_room::NoRoom;
 use super::source::first_wrong;
-use super::{pages, write_pages};
+use super::{empty_folder, pages, write_pages};
 use crate::{DiskSource, DiskTarget};
 use e57_base::{Failed, Source, Target};
 use std::fs::Permissions;
+use std::os::fd::AsRawFd;
 use std::os::unix::fs::{MetadataExt, PermissionsExt, symlink};
 use std::test::*;
 use std::{fs, io};
-
-// The name of the first part.
-const PART: &str = ".e57-0.part";
 
 // Creates a file of this name, and puts so many pages, each filled with its number.
 fn put_pages<T: Target>(target: &mut T, name: &str, count: u8) -> Result<(), Failed>
@@ -26,9 +24,10 @@ fn put_pages<T: Target>(target: &mut T, name: &str, count: u8) -> Result<(), Fai
     Ok(())
 }
 
-// Whether the file has the bytes that it had before, and no part stands beside it.
-fn is_kept(rt: &HostRuntime, name: &str) -> io::Result<bool> {
-    Ok(fs::read(rt, name)?.as_slice() == b"old".as_slice() && !fs::exists(rt, PART)?)
+// Whether the folder's file `out` has the bytes that it had before, and no part stands beside it.
+fn is_kept(rt: &HostRuntime) -> io::Result<bool> {
+    let is_old = fs::read(rt, "kept/out")?.as_slice() == b"old".as_slice();
+    Ok(is_old && !fs::exists(rt, "kept/.e57-0.part")?)
 }
 
 // 70 pages, each filled with its number, but for three of them.
@@ -63,108 +62,130 @@ fn is_written(rt: &HostRuntime, name: &str, lies_at: &str, part: &str) -> Result
 
 #[test]
 fn a_new_file_takes_its_name_at_the_end(rt: HostRuntime) -> Result<(), Fail> {
-    fs::create_dir(&rt, "folder")?;
-    for name in ["old", "folder/old"] {
+    empty_folder(&rt, "new")?;
+    fs::create_dir(&rt, "new/inner")?;
+    for name in ["new/old", "new/inner/old"] {
         fs::write(&rt, name, "old")?;
         fs::set_permissions(&rt, name, Permissions::from_mode(0o604))?;
     }
-    symlink(&rt, "folder/old", "link")?;
-    symlink(&rt, "link", "further")?;
+    symlink(&rt, "inner/old", "new/link")?;
+    symlink(&rt, "link", "new/further")?;
     // A part that a killed process left.
-    fs::write(&rt, PART, "left")?;
+    fs::write(&rt, "new/.e57-0.part", "left")?;
     for (name, lies_at, part) in [
-        ("new", "new", ".e57-1.part"),
-        ("./old", "old", ".e57-1.part"),
-        ("further", "folder/old", "folder/.e57-0.part"),
+        ("bare", "bare", ".e57-0.part"),
+        ("new/new", "new/new", "new/.e57-1.part"),
+        ("./new/old", "new/old", "new/.e57-1.part"),
+        ("new/further", "new/inner/old", "new/inner/.e57-0.part"),
     ] {
         assert!(rt; is_written(&rt, name, lies_at, part)?, "{name}");
     }
-    for name in ["old", "folder/old"] {
+    for name in ["new/old", "new/inner/old"] {
         assert_eq!(rt; fs::metadata(&rt, name)?.mode() & 0o7777, 0o604);
     }
-    assert!(rt; fs::symlink_metadata(&rt, "link")?.is_symlink());
-    assert_eq!(rt; fs::read(&rt, PART)?.as_slice(), b"left".as_slice());
+    assert!(rt; fs::symlink_metadata(&rt, "new/link")?.is_symlink());
+    assert_eq!(rt;
+        fs::read(&rt, "new/.e57-0.part")?.as_slice(),
+        b"left".as_slice()
+    );
+    fs::remove_file(&rt, "bare")?;
+    fs::remove_dir_all(&rt, "new")?;
     Ok(())
 }
 
 #[test]
 fn the_old_file_is_kept_whatever_fails(rt: HostRuntime) -> Result<(), Fail> {
-    fs::write(&rt, "out", "old")?;
+    empty_folder(&rt, "kept")?;
+    fs::write(&rt, "kept/out", "old")?;
     // A refusal: the target is let go.
     let mut target = DiskTarget::new(rt.alloc(), &rt);
-    put_pages(&mut target, "out", 70)?;
-    assert_eq!(rt; fs::read(&rt, "out")?.as_slice(), b"old".as_slice());
+    put_pages(&mut target, "kept/out", 70)?;
+    assert!(rt; fs::exists(&rt, "kept/.e57-0.part")?);
     drop(target);
-    assert!(rt; is_kept(&rt, "out")?);
+    assert!(rt; is_kept(&rt)?);
     // A failed page.
     let full = NoRoom(&rt);
     let mut target = DiskTarget::new(rt.alloc(), &full);
-    put_pages(&mut target, "out", 64)?;
+    put_pages(&mut target, "kept/out", 64)?;
     assert!(rt; target.put_page(64, &[64; 1024]).is_err());
-    assert!(rt; fs::exists(&rt, PART)?);
     drop(target);
-    assert!(rt; is_kept(&rt, "out")?);
+    assert!(rt; is_kept(&rt)?);
     // A failed end, since the gathered pages can't be written, and then another file.
     let mut target = DiskTarget::new(rt.alloc(), &full);
-    put_pages(&mut target, "out", 3)?;
+    put_pages(&mut target, "kept/out", 3)?;
     assert!(rt; target.finish().is_err());
-    assert!(rt; target.create("no/such/folder").is_err());
-    assert!(rt; is_kept(&rt, "out")?);
+    assert!(rt; target.create("kept/no/folder").is_err());
+    assert!(rt; is_kept(&rt)?);
     drop(target);
     // A failed end, since the part is gone.
     let mut target = DiskTarget::new(rt.alloc(), &rt);
-    put_pages(&mut target, "out", 3)?;
-    fs::remove_file(&rt, PART)?;
+    put_pages(&mut target, "kept/out", 3)?;
+    fs::remove_file(&rt, "kept/.e57-0.part")?;
     assert!(rt; target.finish().is_err());
     drop(target);
-    assert!(rt; is_kept(&rt, "out")?);
+    assert!(rt; is_kept(&rt)?);
+    fs::remove_dir_all(&rt, "kept")?;
     Ok(())
 }
 
 #[test]
 fn a_file_is_read_while_it_is_written_anew(rt: HostRuntime) -> Result<(), Fail> {
-    for (name, is_link) in [("hard", false), ("link", true)] {
-        write_pages(&rt, "scan", 140)?;
+    for is_link in [false, true] {
+        empty_folder(&rt, "names")?;
+        write_pages(&rt, "names/scan", 140)?;
         if is_link {
-            symlink(&rt, "scan", name)?;
+            symlink(&rt, "scan", "names/other")?;
         } else {
-            fs::hard_link(&rt, "scan", name)?;
+            fs::hard_link(&rt, "names/scan", "names/other")?;
         }
         let mut source = DiskSource::new(rt.alloc(), &rt);
-        let size = source.open("scan")?;
+        let size = source.open("names/scan")?;
         assert_eq!(rt; size, 1024 * 140);
         let mut target = DiskTarget::new(rt.alloc(), &rt);
-        put_pages(&mut target, name, 2)?;
-        assert_eq!(rt; first_wrong(&mut source, &[139, 138, 3, 0]), None, "{name}");
+        put_pages(&mut target, "names/other", 2)?;
+        assert_eq!(rt; first_wrong(&mut source, &[139, 138, 3, 0]), None);
         target.finish()?;
-        assert_eq!(rt;
-            first_wrong(&mut source, &[1, 2, 3, 80, 139]),
-            None,
-            "{name}"
-        );
+        assert_eq!(rt; first_wrong(&mut source, &[1, 2, 3, 80, 139]), None);
         let left = if is_link { 2 } else { 140 };
-        assert!(rt; fs::read(&rt, "scan")?.as_slice() == pages(&rt, left)?.as_slice());
-        assert!(rt; fs::read(&rt, name)?.as_slice() == pages(&rt, 2)?.as_slice());
+        assert!(rt; fs::read(&rt, "names/scan")?.as_slice() == pages(&rt, left)?.as_slice());
+        assert!(rt; fs::read(&rt, "names/other")?.as_slice() == pages(&rt, 2)?.as_slice());
     }
+    fs::remove_dir_all(&rt, "names")?;
     Ok(())
 }
 
 #[test]
 fn what_is_no_file_is_not_replaced(rt: HostRuntime) -> Result<(), Fail> {
-    fs::create_dir(&rt, "folder")?;
-    symlink(&rt, "absent", "dangling")?;
-    symlink(&rt, "/dev/null", "null")?;
+    empty_folder(&rt, "places")?;
+    symlink(&rt, "absent", "places/dangling")?;
+    symlink(&rt, "/dev/null", "places/null")?;
+    let (reader, writer) = io::pipe(&rt)?;
+    let pipe = format!(in rt.alloc(); "/proc/self/fd/{}", writer.as_raw_fd())?;
     let mut target = DiskTarget::new(rt.alloc(), &rt);
-    for name in ["", "new/", "no/such", "folder", "folder/", "dangling"] {
+    for name in [
+        "",
+        "places/new/",
+        "places/no/folder",
+        "places",
+        "places/",
+        "places/dangling",
+        pipe.as_str(),
+    ] {
         assert!(rt; target.create(name).is_err(), "{name}");
     }
-    assert!(rt; !fs::exists(&rt, "absent")?);
+    drop(reader);
+    assert!(rt; !fs::exists(&rt, "places/absent")?);
     // Devices are written in place.
-    for (name, is_kept) in [("/dev/null", true), ("null", true), ("/dev/full", false)] {
+    for (name, is_kept) in [
+        ("/dev/null", true),
+        ("places/null", true),
+        ("/dev/full", false),
+    ] {
         put_pages(&mut target, name, 64)?;
         assert_eq!(rt; target.finish().is_ok(), is_kept, "{name}");
     }
-    assert!(rt; !fs::exists(&rt, PART)?);
-    assert!(rt; fs::symlink_metadata(&rt, "null")?.is_symlink());
+    assert!(rt; !fs::exists(&rt, "places/.e57-0.part")?);
+    assert!(rt; fs::symlink_metadata(&rt, "places/null")?.is_symlink());
+    fs::remove_dir_all(&rt, "places")?;
     Ok(())
 }
