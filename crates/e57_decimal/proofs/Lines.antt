@@ -6,7 +6,7 @@ use Rattle.std.proofs.lemmas.Int.{unsigned_abs-mul}
 use Rattle.e57_decimal.specs.declared.values.Decimal.{Decimal}
 use Rattle.e57_decimal.specs.declared.scaling.Linear.TheInside.{Inside}
 use Rattle.e57_decimal.specs.Fractions.{limit, shift_limit, up_of, fraction_of, combined}
-use Rattle.e57_decimal.specs.Scaling.{Line, is_zero, common_up, whole_at, reach, is_linear, linear_of}
+use Rattle.e57_decimal.specs.Scaling.{Line, is_zero, common_up, whole_at, reach, is_linear, line_with, linear_of}
 use Rattle.std.proofs.lemmas.Nat.{pow-add}
 use Rattle.std.proofs.Math.Nat.{mul-one, mul-le-mul, div-lt_iff_lt-mul}
 use Rattle.std.proofs.Math.IntN.{zero-*ℤ}
@@ -38,23 +38,20 @@ third_fails true true c e = e
 third_fails true false c e = refl
 third_fails false b c e = refl
 
-abbrev pub line : Decimal → Decimal → ℤ → ℤ → Line
-line scale offset low high = record { scale = scale; offset = offset; low = low; high = high }
-
-none_of : (scale offset : Decimal) (low high : ℤ) → is_linear (line scale offset low high) ≡ false → None ≡ linear_of scale offset low high
-none_of scale offset low high e = ap (λ (t : Bool). cond t (Some (line scale offset low high)) None) (sym e)
+none_of : (scale offset : Decimal) (low high : ℤ) → is_linear (line_with scale offset low high) ≡ false → None ≡ linear_of scale offset low high
+none_of scale offset low high e = ap (λ (t : Bool). cond t (Some (line_with scale offset low high)) None) (sym e)
 
 pub no_factor : (scale offset : Decimal) (low high : ℤ) (up : ℕ) → up ≡ common_up scale offset → (unsigned_abs (whole_at up scale) ≤ limit → ⊥) → None ≡ linear_of scale offset low high
 no_factor scale offset low high up e large =
     let f : leb (unsigned_abs (whole_at up scale)) limit ≡ false = by_test (leb (unsigned_abs (whole_at up scale)) limit) refl in
-    none_of scale offset low high (is_tests (line scale offset low high) up e ∙ ap (λ t. t && (leb (unsigned_abs (whole_at up offset)) limit && leb (reach low high * unsigned_abs (whole_at up scale) + unsigned_abs (whole_at up offset)) limit)) f) where
+    none_of scale offset low high (is_tests (line_with scale offset low high) up e ∙ ap (λ t. t && (leb (unsigned_abs (whole_at up offset)) limit && leb (reach low high * unsigned_abs (whole_at up scale) + unsigned_abs (whole_at up offset)) limit)) f) where
       by_test : (t : Bool) → leb (unsigned_abs (whole_at up scale)) limit ≡ t → t ≡ false
       by_test true g = absurd (large (leb-true _ _ g))
       by_test false g = refl
 
 pub no_summand : (scale offset : Decimal) (low high : ℤ) (up : ℕ) → up ≡ common_up scale offset → (unsigned_abs (whole_at up offset) ≤ limit → ⊥) → None ≡ linear_of scale offset low high
 no_summand scale offset low high up e large =
-    none_of scale offset low high (is_tests (line scale offset low high) up e ∙ second_fails _ _ _ (by_test (leb (unsigned_abs (whole_at up offset)) limit) refl)) where
+    none_of scale offset low high (is_tests (line_with scale offset low high) up e ∙ second_fails _ _ _ (by_test (leb (unsigned_abs (whole_at up offset)) limit) refl)) where
       by_test : (t : Bool) → leb (unsigned_abs (whole_at up offset)) limit ≡ t → t ≡ false
       by_test true g = absurd (large (leb-true _ _ g))
       by_test false g = refl
@@ -66,14 +63,14 @@ pub no_room : (scale offset : Decimal) (low high : ℤ) (up : ℕ) (factor summa
 no_room scale offset low high up factor summand e f s large =
     let same : leb (most low high (whole_at up scale) (whole_at up offset)) limit ≡ false =
     ap (λ z. leb (most low high z (whole_at up offset)) limit) (sym f) ∙ ap (λ z. leb (most low high factor z) limit) (sym s) ∙ large in
-    none_of scale offset low high (is_tests (line scale offset low high) up e ∙ third_fails _ _ _ same)
+    none_of scale offset low high (is_tests (line_with scale offset low high) up e ∙ third_fails _ _ _ same)
 
-pub some_line : (scale offset : Decimal) (low high : ℤ) (up : ℕ) (factor summand : ℤ) → up ≡ common_up scale offset → factor ≡ whole_at up scale → summand ≡ whole_at up offset → unsigned_abs (whole_at up scale) ≤ limit → unsigned_abs (whole_at up offset) ≤ limit → leb (most low high factor summand) limit ≡ true → Some (line scale offset low high) ≡ linear_of scale offset low high
+pub some_line : (scale offset : Decimal) (low high : ℤ) (up : ℕ) (factor summand : ℤ) → up ≡ common_up scale offset → factor ≡ whole_at up scale → summand ≡ whole_at up offset → unsigned_abs (whole_at up scale) ≤ limit → unsigned_abs (whole_at up offset) ≤ limit → leb (most low high factor summand) limit ≡ true → Some (line_with scale offset low high) ≡ linear_of scale offset low high
 some_line scale offset low high up factor summand e f s small less room =
     let third : leb (most low high (whole_at up scale) (whole_at up offset)) limit ≡ true =
     ap (λ z. leb (most low high z (whole_at up offset)) limit) (sym f) ∙ ap (λ z. leb (most low high factor z) limit) (sym s) ∙ room in
-    let all : tests (line scale offset low high) up ≡ true = rw (le-leb (unsigned_abs (whole_at up scale)) limit small, le-leb (unsigned_abs (whole_at up offset)) limit less) third in
-    ap (λ (t : Bool). cond t (Some (line scale offset low high)) None) (sym (is_tests (line scale offset low high) up e ∙ all))
+    let all : tests (line_with scale offset low high) up ≡ true = rw (le-leb (unsigned_abs (whole_at up scale)) limit small, le-leb (unsigned_abs (whole_at up offset)) limit less) third in
+    ap (λ (t : Bool). cond t (Some (line_with scale offset low high)) None) (sym (is_tests (line_with scale offset low high) up e ∙ all))
 
 -- ---- a line that is kept
 

@@ -1,5 +1,6 @@
 -- The digits behind the point.
 use Rattle.std.proofs.Common.{◌≡◌, ℕ, zero, suc, ◌+◌, ◌*◌, ◌/◌, ◌%◌, ◌^◌, ◌<◌, ◌≢◌, inl, inr, List, [], ◌∷◌, ◌++◌, refl, sym, ap, ◌∙◌, append_assoc, arith}
+use Rattle.std.proofs.lemmas.List.{append-nil}
 use Rattle.std.proofs.lemmas.Bool.{ne_eqb, eq-eqb}
 use Rattle.std.proofs.Math.Nat.{eq-zero-or-pos, mod-lt, div-lt_iff_lt-mul, pow-suc, mul-div-mul_right, div-add-mod', mul_assoc}
 use Rattle.e57_decimal.specs.Writing.{places_of, point_text}
@@ -70,3 +71,7 @@ places_put text more left k r digit rest l some d e m =
     ap (λ (bs : List ℕ). bs ++ places_of k rest) m ∙ append_assoc text ((48 + digit) ∷ []) (places_of k rest)
     ∙ ap (λ n. text ++ ((48 + n) ∷ places_of k rest)) d ∙ ap (λ n. text ++ ((48 + r / 10 ^ k) ∷ places_of k n)) e
     ∙ ap (λ (bs : List ℕ). text ++ bs) (sym (places_step k r some)) ∙ ap (λ n. text ++ places_of n r) (sym l)
+
+-- nothing is left to put
+pub done_text : (text rest old : List ℕ) → rest ≡ [] → text ++ rest ≡ old → text ≡ old
+done_text text rest old e h = sym (append-nil text) ∙ ap (λ (bs : List ℕ). text ++ bs) (sym e) ∙ h

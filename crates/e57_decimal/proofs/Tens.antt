@@ -1,6 +1,6 @@
 -- Powers of ten.
-use Rattle.std.proofs.Common.{◌≡◌, ℕ, ◌+◌, ◌*◌, ◌%◌, ◌^◌, ◌<◌, ◌≤◌, ap, ◌∙◌, add-one, arith, lit≤}
-use Rattle.std.proofs.Math.Nat.{pow-le-pow_right, one-le-pow, pow-suc, mul_assoc, mul-add-mod_self_right, mod-eq_of_lt}
+use Rattle.std.proofs.Common.{◌≡◌, ℕ, ◌+◌, ◌*◌, ◌/◌, ◌%◌, ◌^◌, ◌<◌, ◌≤◌, ap, ◌∙◌, add-one, arith, lit≤, lit<}
+use Rattle.std.proofs.Math.Nat.{pow-le-pow_right, one-le-pow, pow-suc, mul_assoc, mul-add-mod_self_right, mod-eq_of_lt, mul-div_cancel}
 
 pub pow-pos : (k : ℕ) → 0 < 10 ^ k
 pow-pos k = one-le-pow k 10 (omega arith)
@@ -24,3 +24,10 @@ pub last_digit : (m z d : ℕ) → d < 10 → (m * 10 ^ (z + 1) + d) % 10 ≡ d
 last_digit m z d h =
     let e : m * 10 ^ (z + 1) + d ≡ m * 10 ^ z * 10 + d = omega (arith, ap (λ p. m * p) (pow-next z), mul_assoc m (10 ^ z) 10) in
     ap (λ n. n % 10) e ∙ mul-add-mod_self_right (m * 10 ^ z) 10 d ∙ mod-eq_of_lt h
+
+-- one power less
+pub pow-less : (p left k : ℕ) → left ≡ k + 1 → p ≡ 10 ^ left → p / 10 ≡ 10 ^ k
+pow-less p left k l e = ap (λ n. n / 10) (e ∙ ap (λ j. 10 ^ j) l ∙ pow-next k) ∙ mul-div_cancel (10 ^ k) (omega arith)
+
+pub pow-short : (k : ℕ) → k ≤ 19 → 10 ^ k < 2 ^ 64
+pow-short k h = let l : 10 ^ k ≤ 10 ^ 19 = pow-le k 19 h in let room : 10 ^ 19 < 2 ^ 64 = lit< tt in omega arith

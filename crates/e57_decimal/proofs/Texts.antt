@@ -1,5 +1,5 @@
 -- Parts of a text, and the decimal of their value.
-use Rattle.std.proofs.Common.{◌≡◌, ℕ, ◌+◌, ◌*◌, ◌%◌, ◌^◌, ◌<◌, ◌≤◌, ◌≢◌, ◌⊎◌, inl, inr, Bool, true, false, cond, eqb, ℤ, pos, neg_ℤ, ◌*ℤ◌, ◌+ℤ◌, ◌≤ℤ◌, List, [], ◌∷◌, ◌++◌, length, Option, Some, None, option_map, refl, sym, ap, subst, ◌∙◌, arith}
+use Rattle.std.proofs.Common.{◌≡◌, ℕ, ◌+◌, ◌*◌, ◌%◌, ◌^◌, ◌≤◌, ◌≢◌, inl, inr, Bool, true, false, cond, eqb, ℤ, pos, neg_ℤ, ◌*ℤ◌, ◌+ℤ◌, ◌≤ℤ◌, List, [], ◌∷◌, ◌++◌, length, Option, Some, None, option_map, refl, sym, ap, subst, ◌∙◌, arith}
 use Rattle.std.specs.Prelude.{unsigned_abs}
 use Rattle.std.specs.List.{list_all}
 use Rattle.std.proofs.lemmas.Nat.{pow-add}
@@ -9,6 +9,7 @@ use Rattle.e57_decimal.specs.declared.values.Decimal.{Decimal}
 use Rattle.e57_decimal.specs.Fractions.{Fraction, IsSame, IsDecimal, limit, shift_limit, signed, fraction_of}
 use Rattle.e57_decimal.specs.Reading.{Parts, is_digit, run, after, places_at, exponent_in, unsigned_in, parts_in, value_of, fraction_in, IsReadAs, number_after, sign_at, trimmed}
 use Rattle.e57_decimal.specs.Gathering.{IsTooLong}
+use Rattle.e57_decimal.specs.Deciding.{Decides, IsFar}
 use Rattle.e57_decimal.proofs.Fronts.{run_each}
 use Rattle.e57_decimal.proofs.Forms.{same_whole, up_of-le, fraction, decimal, one_power, two_powers}
 use Rattle.e57_decimal.proofs.Signs.{signed-mul, abs-signed}
@@ -66,7 +67,7 @@ too_long_for p d long kept same =
     let within = kept.within in
     absurd (omega arith)
 
-pub no_shift : (negative : Bool) (m up down : ℕ) (d : Decimal) → m % 10 ≢ 0 → (up + shift_limit < down) ⊎ (down + shift_limit < up) → IsDecimal d → IsSame (fraction (signed negative m) up down) (fraction_of d) → ⊥
+pub no_shift : (negative : Bool) (m up down : ℕ) (d : Decimal) → m % 10 ≢ 0 → IsFar up down → IsDecimal d → IsSame (fraction (signed negative m) up down) (fraction_of d) → ⊥
 no_shift negative m up down d last far kept same =
     let w = same_whole (fraction (signed negative m) up down) d m 0 (abs-signed negative m ∙ omega arith) last kept same in
     let low = up_of-le d kept in
@@ -109,16 +110,12 @@ moved_same : (p : Parts) (m z : ℕ) (y : Fraction) → m * 10 ^ z ≡ number_af
 unfolding value_of
 moved_same p m z y e h = record { crosswise = sym (moved p.negative (number_after 0 (p.whole ++ p.places)) m z p.raised y.down e) ∙ h.crosswise }
 
--- what is answered where a decimal of the fraction is looked for
-abbrev pub Answers : Fraction → Option Decimal → Type 0
-Answers x r = MatchOption r ((d : Decimal) → IsDecimal d → IsSame x (fraction_of d) → ⊥) (λ d. IsDecimal d × IsSame x (fraction_of d))
-
-by_answer : (text : List ℕ) (p : Parts) (m z : ℕ) (r : Option Decimal) → parts_in text ≡ Some p → m * 10 ^ z ≡ number_after 0 (p.whole ++ p.places) → Answers (fraction (signed p.negative m) (z + p.raised) (length p.places + p.lowered)) r → MatchOption r ((d : Decimal) → IsReadAs text d → ⊥) (λ d. IsReadAs text d)
+by_answer : (text : List ℕ) (p : Parts) (m z : ℕ) (r : Option Decimal) → parts_in text ≡ Some p → m * 10 ^ z ≡ number_after 0 (p.whole ++ p.places) → Decides (fraction (signed p.negative m) (z + p.raised) (length p.places + p.lowered)) r → MatchOption r ((d : Decimal) → IsReadAs text d → ⊥) (λ d. IsReadAs text d)
 by_answer text p m z None found e h = λ d read. h d read.kept (moved_same p m z (fraction_of d) e (read_value text p d found read))
 by_answer text p m z (Some d) found e h = value_read text p d found h.0 (same_moved p m z (fraction_of d) e h.1)
 
 -- what is answered of a number whose zeros are counted apart is what is answered of the text
-pub read_by : (text : List ℕ) (p : Parts) (m z up down : ℕ) (r : Option Decimal) → parts_in text ≡ Some p → m * 10 ^ z ≡ number_after 0 (p.whole ++ p.places) → up ≡ z + p.raised → down ≡ length p.places + p.lowered → Answers (fraction (signed p.negative m) up down) r → MatchOption r ((d : Decimal) → IsReadAs text d → ⊥) (λ d. IsReadAs text d)
+pub read_by : (text : List ℕ) (p : Parts) (m z up down : ℕ) (r : Option Decimal) → parts_in text ≡ Some p → m * 10 ^ z ≡ number_after 0 (p.whole ++ p.places) → up ≡ z + p.raised → down ≡ length p.places + p.lowered → Decides (fraction (signed p.negative m) up down) r → MatchOption r ((d : Decimal) → IsReadAs text d → ⊥) (λ d. IsReadAs text d)
 read_by text p m z up down r found e u d h =
-    let moved = subst (λ n. Answers (fraction (signed p.negative m) n down) r) u h in
-    by_answer text p m z r found e (subst (λ n. Answers (fraction (signed p.negative m) (z + p.raised) n) r) d moved)
+    let moved = subst (λ n. Decides (fraction (signed p.negative m) n down) r) u h in
+    by_answer text p m z r found e (subst (λ n. Decides (fraction (signed p.negative m) (z + p.raised) n) r) d moved)

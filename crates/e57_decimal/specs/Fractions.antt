@@ -42,7 +42,9 @@ fraction_of d = record { whole = d.whole; up = up_of d; down = shift_limit }
 -- raw * scale + offset
 abbrev pub combined : Fraction → Fraction → ℤ → Fraction
 combined scale offset raw = record {
-  whole = (raw *ℤ scale.whole) *ℤ pos (10 ^ (scale.up + offset.down)) +ℤ offset.whole *ℤ pos (10 ^ (offset.up + scale.down));
+  whole =
+      (raw *ℤ scale.whole) *ℤ pos (10 ^ (scale.up + offset.down))
+      +ℤ offset.whole *ℤ pos (10 ^ (offset.up + scale.down));
   up = 0;
   down = scale.down + offset.down;
 }

@@ -47,13 +47,18 @@ exponent_digits = 5
 -- the number of an exponent without its sign
 unfoldable pub power_in : List ℕ → Option ℕ
 power_in digits =
-    if nat_le 1 (length digits) && (nat_le (length digits) exponent_digits && list_all is_digit digits) then Some (number_after 0 digits) else None
+    if nat_le 1 (length digits) && (nat_le (length digits) exponent_digits && list_all is_digit digits)
+    then Some (number_after 0 digits)
+    else None
 
--- by how many powers of ten a number is raised, and by how many it is lowered: `e` or `E`, and a signed number, or nothing
+-- by how many powers of ten a number is raised, and by how many it is lowered: `e` or `E` and a signed number, or
+-- nothing
 unfoldable pub exponent_in : List ℕ → Option (ℕ × ℕ)
 exponent_in [] = Some (0, 0)
 exponent_in (b ∷ bs) =
-    if b == 101 || b == 69 then option_map (λ n. if (sign_at bs).0 then (0, n) else (n, 0)) (power_in (sign_at bs).1) else None
+    if b == 101 || b == 69
+    then option_map (λ n. if (sign_at bs).0 then (0, n) else (n, 0)) (power_in (sign_at bs).1)
+    else None
 
 -- a decimal text by its parts: the digits before and behind the point, and the exponent
 pub record Parts : Type 0 where
@@ -69,7 +74,10 @@ unsigned_in negative text =
     let whole = run is_digit text in
     let behind = places_at (after is_digit text) in
     if length whole + length behind.0 == 0 then None
-    else option_map (λ e. record { negative = negative; whole = whole; places = behind.0; raised = e.0; lowered = e.1 }) (exponent_in behind.1)
+    else
+    option_map
+    (λ e. record { negative = negative; whole = whole; places = behind.0; raised = e.0; lowered = e.1 })
+    (exponent_in behind.1)
 
 unfoldable pub parts_in : List ℕ → Option Parts
 parts_in text = unsigned_in (sign_at (trimmed text)).0 (sign_at (trimmed text)).1

@@ -1,5 +1,6 @@
 -- A raw number times a scale plus an offset (ASTM E2807, ScaledInteger), in whole numbers.
-use Rattle.std.specs.Prelude.{ℕ, ◌+◌, ◌-◌, ◌*◌, ◌^◌, nat_le, ◌==◌, min, max, ℤ, pos, ◌*ℤ◌, unsigned_abs, Bool, ◌&&◌, Option, Some, None, if◌then◌else◌}
+use Rattle.std.specs.Prelude.{ℕ, ◌+◌, ◌-◌, ◌*◌, ◌^◌, ◌≤◌, nat_le, ◌==◌, min, max, ℤ, pos, ◌*ℤ◌, unsigned_abs, Bool, ◌&&◌, Option, Some, None, if◌then◌else◌}
+use Rattle.std.specs.Option.{SomeIff}
 use Rattle.e57_decimal.specs.declared.values.Decimal.{Decimal}
 use Rattle.e57_decimal.specs.Fractions.{Fraction, limit, shift_limit, up_of, fraction_of, combined}
 
@@ -29,20 +30,29 @@ common_up scale offset =
 unfoldable pub whole_at : ℕ → Decimal → ℤ
 whole_at up d = d.whole *ℤ pos (10 ^ (up_of d - up))
 
+-- what is answered of a whole number: none if it is past the limit
+abbrev pub Within : ℤ → Option ℤ → Type 0
+Within z result = SomeIff result (unsigned_abs z ≤ limit) z
+
 -- the greater magnitude of the limits
 abbrev pub reach : ℤ → ℤ → ℕ
 reach low high = max (unsigned_abs low) (unsigned_abs high)
 
--- Both whole numbers, and the greatest magnitude of `raw * scale + offset` by them, are within the limit.
+-- Both whole numbers at the common shift, and the greatest magnitude of `raw * factor + summand`, are within the limit.
 unfoldable pub is_linear : Line → Bool
 is_linear line =
     let up = common_up line.scale line.offset in
     let factor = unsigned_abs (whole_at up line.scale) in
     let summand = unsigned_abs (whole_at up line.offset) in
-    nat_le factor limit && (nat_le summand limit && nat_le (reach line.low line.high * factor + summand) limit)
+    nat_le factor limit
+    && (nat_le summand limit && nat_le (reach line.low line.high * factor + summand) limit)
+
+abbrev pub line_with : Decimal → Decimal → ℤ → ℤ → Line
+line_with scale offset low high = record { scale = scale; offset = offset; low = low; high = high }
 
 -- the line, if it is linear within 128 bits
 abbrev pub linear_of : Decimal → Decimal → ℤ → ℤ → Option Line
 linear_of scale offset low high =
-    let line : Line = record { scale = scale; offset = offset; low = low; high = high } in
-    if is_linear line then Some line else None
+    if is_linear (line_with scale offset low high)
+    then Some (line_with scale offset low high)
+    else None

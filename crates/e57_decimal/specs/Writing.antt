@@ -1,5 +1,5 @@
 -- The text of a decimal number.
-use Rattle.std.specs.Prelude.{ℕ, zero, suc, ◌+◌, ◌*◌, ◌/◌, ◌%◌, ◌^◌, nat_lt, ◌==◌, ℤ, pos, negsuc, unsigned_abs, List, [], ◌∷◌, ◌++◌, if◌then◌else◌}
+use Rattle.std.specs.Prelude.{ℕ, zero, suc, ◌+◌, ◌*◌, ◌/◌, ◌%◌, ◌^◌, ◌<◌, nat_lt, ◌==◌, ℤ, pos, negsuc, unsigned_abs, List, [], ◌∷◌, ◌++◌, if◌then◌else◌}
 use Rattle.e57_decimal.specs.Fractions.{Fraction}
 
 -- the digits of a number below 10 ^ k, without a leading zero but at least one
@@ -10,6 +10,10 @@ whole_digits (suc k) n = if nat_lt n 10 then (48 + n) ∷ [] else whole_digits k
 -- the most digits before the point
 abbrev pub most_digits : ℕ
 most_digits = 128
+
+-- the value has at most so many digits before the point
+abbrev pub HasFewDigits : Fraction → Type 0
+HasFewDigits x = unsigned_abs x.whole * 10 ^ x.up / 10 ^ x.down < 10 ^ most_digits
 
 -- the digits behind the point of r / 10 ^ k, for r below 10 ^ k: the last isn't 0
 unfoldable pub places_of : ℕ → ℕ → List ℕ

@@ -1,9 +1,9 @@
 //! A number by its digits.
 
-ghost use Rattle.std.specs.Prelude.{◌≡◌, ℕ, ◌+◌, ◌*◌, ◌^◌, ◌<◌, ◌≤◌, ◌++◌, length, true, MatchOption};
+ghost use Rattle.std.specs.Prelude.{◌≡◌, ◌+◌, ◌*◌, ◌^◌, ◌<◌, ◌++◌, length, true};
 ghost use Rattle.std.specs.List.{list_all};
 ghost use Rattle.e57_decimal.specs.Reading.{is_digit, number_after};
-ghost use Rattle.e57_decimal.specs.Gathering.{IsGathered, IsTooLong, total};
+ghost use Rattle.e57_decimal.specs.Gathering.{Gathers, IsGathered, total};
 
 use crate::powers::{LIMIT, power_of_ten};
 
@@ -19,7 +19,7 @@ fn appended(number: Gathered, digit: u8) -> Option<Gathered>
     requires kept { IsGathered number }
     requires digit { digit < 10 }
     requires room { number.zeros + 1 < 2 ^ 64 }
-    ensures { MatchOption result (IsTooLong (total number * 10 + digit)) (λ more. IsGathered more × (total more ≡ total number * 10 + digit) × (more.zeros ≤ number.zeros + 1)) }
+    ensures { Gathers (total number * 10 + digit) (number.zeros + 1) result }
 {
     let Gathered { magnitude, zeros } = number;
     if digit == 0 {
@@ -49,7 +49,7 @@ fn with_digits(number: Gathered, digits: &[u8]) -> Option<Gathered>
     requires kept { IsGathered number }
     requires each { list_all is_digit digits.now ≡ true }
     requires room { number.zeros + length digits.now < 2 ^ 64 }
-    ensures { MatchOption result (IsTooLong (number_after (total number) digits.now)) (λ more. IsGathered more × (total more ≡ number_after (total number) digits.now) × (more.zeros ≤ number.zeros + length digits.now)) }
+    ensures { let n = number_after (total number) digits.now in Gathers n (number.zeros + length digits.now) result }
 {
     let mut number = number;
     for b in digits {
@@ -58,12 +58,12 @@ fn with_digits(number: Gathered, digits: &[u8]) -> Option<Gathered>
     Some(number)
 }
 
-/// The number of the digits before and behind a point, or none if it is too long: without its last zeros it is above the
-/// limit.
+/// The number of the digits before and behind a point, or none if it is too long: without its last zeros it is above
+/// 2^127 - 1.
 pub fn number_of_digits(whole: &[u8], places: &[u8]) -> Option<Gathered>
     requires whole { list_all is_digit whole.now ≡ true }
     requires places { list_all is_digit places.now ≡ true }
-    ensures { MatchOption result (IsTooLong (number_after 0 (whole.now ++ places.now))) (λ number. IsGathered number × (total number ≡ number_after 0 (whole.now ++ places.now))) }
+    ensures { let n = number_after 0 (whole.now ++ places.now) in Gathers n (length whole.now + length places.now) result }
 {
     let nothing = Gathered {
         magnitude: 0,

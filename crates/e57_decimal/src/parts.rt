@@ -2,11 +2,11 @@
 
 ghost use Rattle.std.specs.Prelude.{◌≡◌, ◌≤◌, true, reverse, length, option_map};
 ghost use Rattle.std.specs.List.{list_all};
-ghost use Rattle.e57_decimal.specs.Reading.{is_space as is_white, is_digit as is_numeral, run, after, trimmed as trimmed_of, number_after, sign_at, places_at, exponent_digits, power_in, exponent_in, parts_in, unsigned_in};
+ghost use Rattle.e57_decimal.specs.Reading.{is_space as is_white, is_digit as is_numeral, run, after, trimmed as trimmed_of, number_after, sign_at, places_at, power_in, exponent_in, parts_in, unsigned_in};
 ghost use Rattle.e57_decimal.specs.Viewing.{parts_of};
 
-/// A decimal text by its parts: the digits before and behind the point, and by how many powers of ten the exponent raises
-/// or lowers the number.
+/// A decimal text by its parts: the digits before and behind the point, and by how many powers of ten the exponent
+/// raises or lowers the number.
 #[derive(Clone, Copy)]
 pub struct Parts<'a> {
     pub negative: bool,
@@ -116,7 +116,7 @@ fn split_places(text: &[u8]) -> (&[u8], &[u8])
 
 /// The number that a few digits write.
 fn number(digits: &[u8]) -> u32
-    requires few { length digits.now ≤ exponent_digits }
+    requires few { length digits.now ≤ 9 }
     requires each { list_all is_numeral digits.now ≡ true }
     ensures { result ≡ number_after 0 digits.now }
 {

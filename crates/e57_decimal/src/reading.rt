@@ -1,8 +1,9 @@
 //! Decimals in texts.
 
-ghost use Rattle.std.specs.Prelude.{◌≡◌, ◌+◌, ◌%◌, ◌<◌, ◌≤◌, ⊤, ℤ, pos, neg_ℤ, ◌≤ℤ◌, ◌⊎◌, unsigned_abs, ◌+ℤ◌, MatchOption};
-ghost use Rattle.e57_decimal.specs.Fractions.{Fraction, IsDecimal, IsSame, fraction_of, limit, signed as signed_number};
-ghost use Rattle.e57_decimal.specs.Reading.{HasValue, IsReadAs};
+ghost use Rattle.std.specs.Prelude.{◌≡◌, ◌%◌, ◌≤◌, MatchOption};
+ghost use Rattle.e57_decimal.specs.Fractions.{limit};
+ghost use Rattle.e57_decimal.specs.Reading.{IsReadAs};
+ghost use Rattle.e57_decimal.specs.Deciding.{Decides, IsFar, IsShift, signed_fraction};
 
 use crate::gathering::number_of_digits;
 use crate::parts::split_parts;
@@ -11,7 +12,7 @@ use crate::values::Decimal;
 
 /// `up - down` as a shift, if its magnitude is at most 60.
 fn shift_of(up: u128, down: u128) -> Option<i16>
-    ensures { MatchOption result ((up + 60 < down) ⊎ (down + 60 < up)) (λ s. (neg_ℤ (pos 60) ≤ℤ s) × (s ≤ℤ pos 60) × (unsigned_abs (s +ℤ pos 60) + down ≡ up + 60)) }
+    ensures { MatchOption result (IsFar up down) (IsShift up down) }
 {
     if up >= down {
         let raised = up - down;
@@ -32,7 +33,7 @@ fn shift_of(up: u128, down: u128) -> Option<i16>
 fn decimal_of(negative: bool, magnitude: u128, up: u128, down: u128) -> Option<Decimal>
     requires within { magnitude ≤ limit }
     requires tens { magnitude % 10 ≡ 0 → magnitude ≡ 0 }
-    ensures { let x : Fraction = record { whole = signed_number negative magnitude; up = up; down = down } in MatchOption result ((d : Decimal) → IsDecimal d → IsSame x (fraction_of d) → ⊥) (λ d. IsDecimal d × IsSame x (fraction_of d)) }
+    ensures { Decides (signed_fraction negative magnitude up down) result }
 {
     if magnitude == 0 {
         return Some(Decimal { whole: 0, shift: 0 });
@@ -44,9 +45,9 @@ fn decimal_of(negative: bool, magnitude: u128, up: u128, down: u128) -> Option<D
     })
 }
 
-/// The decimal whose value a decimal text has. Without white space at its ends (space, tab, carriage return, line feed)
-/// such a text is an optional `-` or `+`, digits with at most one `.` among them, before or after them, at least one
-/// digit, and perhaps `e` or `E`, an optional sign and 1 to 5 digits.
+/// The decimal whose value a decimal text has. Without white space at its ends (space, tab, carriage return, line
+/// feed) such a text is an optional `-` or `+`, digits with at most one `.` among them, before or after them, at least
+/// one digit, and perhaps `e` or `E`, an optional sign and 1 to 5 digits.
 ///
 /// None if the text isn't such a text, or no decimal has its value.
 pub fn read_decimal(text: &[u8]) -> Option<Decimal>

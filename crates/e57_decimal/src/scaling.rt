@@ -1,10 +1,9 @@
 //! A raw number times a scale plus an offset.
 
-ghost use Rattle.std.specs.Prelude.{◌≡◌, nat_le, ◌≤◌, ◌+◌, ◌*◌, ◌^◌, pos, neg_ℤ, ◌+ℤ◌, ◌*ℤ◌, ◌≤ℤ◌, unsigned_abs};
-ghost use Rattle.std.specs.Option.{SomeIff};
+ghost use Rattle.std.specs.Prelude.{◌≡◌, nat_le, ◌≤◌, ◌+◌, ◌*◌, ◌^◌, pos, neg_ℤ, ◌+ℤ◌, ◌*ℤ◌, ◌≤ℤ◌, unsigned_abs, IfSome};
 ghost use Rattle.e57_decimal.specs.Fractions.{IsDecimal, limit, shift_limit};
 ghost use Rattle.e57_decimal.specs.Reading.{HasValue};
-ghost use Rattle.e57_decimal.specs.Scaling.{common_up as common_up_of, linear_of, reach, value_of, whole_at as whole_at_up};
+ghost use Rattle.e57_decimal.specs.Scaling.{Within, common_up as common_up_of, linear_of, reach, value_of, line_with, whole_at as whole_at_up};
 ghost use Rattle.e57_decimal.specs.Writing.{decimal_text};
 
 use crate::powers::{LIMIT, SHIFT_LIMIT, power_of_ten, signed};
@@ -68,7 +67,7 @@ fn common_up(scale: Decimal, offset: Decimal) -> u32
 
 /// `whole * 10^k`, if its magnitude is at most 2^127 - 1.
 fn raised(whole: i128, k: u32) -> Option<i128>
-    ensures { SomeIff result (unsigned_abs (whole *ℤ pos (10 ^ k)) ≤ limit) (whole *ℤ pos (10 ^ k)) }
+    ensures { Within (whole *ℤ pos (10 ^ k)) result }
 {
     if whole == 0 {
         return Some(0);
@@ -85,7 +84,7 @@ fn raised(whole: i128, k: u32) -> Option<i128>
 #[tactic(auto, unfolding(crate::specs::Scaling::whole_at))]
 fn whole_at(decimal: Decimal, up: u32) -> Option<i128>
     requires { IsDecimal decimal }
-    ensures { SomeIff result (unsigned_abs (whole_at_up up decimal) ≤ limit) (whole_at_up up decimal) }
+    ensures { Within (whole_at_up up decimal) result }
 {
     raised(decimal.whole, up_of(decimal.shift).saturating_sub(up))
 }
@@ -122,14 +121,15 @@ fn value_at(raw: i64, factor: i128, summand: i128) -> i128
 impl Linear {
     /// The line of a scale and an offset over the raw numbers from `min` to `max`.
     ///
-    /// Let s be the least shift of those of the two that aren't 0, or 0 where both are; A and B the whole numbers with
-    /// `scale = A * 10^s` and `offset = B * 10^s`; M the greater magnitude of `min` and `max`. None if the magnitude of
-    /// A or of B, or `M * |A| + |B|`, is above 2^127 - 1.
+    /// Let s be the least shift of those of the two that aren't 0, or 0 if both are; A and B the whole numbers with
+    /// `scale = A * 10^s` and `offset = B * 10^s`; M the greater magnitude of `min` and `max`. None if the magnitude
+    /// of A or of B, or `M * |A| + |B|`, is above 2^127 - 1.
     pub fn new(scale: Decimal, offset: Decimal, min: i64, max: i64) -> Option<Linear>
         requires scale { IsDecimal scale }
         requires offset { IsDecimal offset }
         requires limits { min ≤ℤ max }
-        ensures { result ≡ linear_of scale offset min max }
+        ensures linear { result ≡ linear_of scale offset min max }
+        ensures line { IfSome result (λ line. line ≡ line_with scale offset min max) }
     {
         let up = common_up(scale, offset);
         let factor = whole_at(scale, up)?;
@@ -148,9 +148,9 @@ impl Linear {
         })
     }
 
-    /// The text of `raw * scale + offset`, for a raw number within the limits: a `-` if it is below 0, the digits before the
-    /// point without a leading zero but at least one, and, if it isn't whole, a point and the digits behind it, the last
-    /// not 0. At most 101 bytes.
+    /// The text of `raw * scale + offset`, for a raw number within the limits: a `-` if it is below 0, the digits before
+    /// the point without a leading zero but at least one, and, if it isn't whole, a point and the digits behind it, the
+    /// last not 0. At most 101 bytes.
     pub fn text(&self, raw: i64) -> ArrayString<112>
         requires low { self.now.low ≤ℤ raw }
         requires high { raw ≤ℤ self.now.high }

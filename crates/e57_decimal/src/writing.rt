@@ -12,6 +12,9 @@ use itoa::Buffer;
 /// Room for every text: at most 101 bytes are written.
 pub type Text = ArrayString<112>;
 
+/// The most places of which the power of ten is below 2^64.
+const SHORT_PLACES: u32 = 19;
+
 /// Appends the digits of a number.
 fn put_digits(text: &mut Text, number: u128)
     requires room { array_string_len text.old + 40 ≤ 112 }
@@ -84,6 +87,52 @@ fn put_raised(text: &mut Text, magnitude: u128, zeros: u32)
     }
 }
 
+/// Appends the digits of a number below 2^64.
+fn put_short_digits(text: &mut Text, number: u64)
+    requires room { array_string_len text.old + 40 ≤ 112 }
+    ensures put { text.new.bytes ≡ text.old.bytes ++ decimal number }
+    ensures short { array_string_len text.new ≤ array_string_len text.old + 40 }
+{
+    let mut buffer = Buffer::new();
+    text.push_str(buffer.format(number));
+}
+
+/// Appends the digits behind the point of `rest / power`, which is 10^places, up to the last one that isn't 0.
+fn put_short_places(text: &mut Text, rest: u64, places: u32, power: u64)
+    requires power { power ≡ 10 ^ places }
+    requires below { rest < power }
+    requires room { array_string_len text.old + places ≤ 112 }
+    ensures { text.new.bytes ≡ text.old.bytes ++ places_of places rest }
+{
+    let mut left = rest;
+    let mut power = power;
+    for _ in 0..places {
+        if left == 0 {
+            return;
+        }
+        power /= 10;
+        let digit = left / power;
+        text.push((b'0' + digit as u8) as char);
+        left %= power;
+    }
+}
+
+/// Appends the text of `magnitude / 10^places`, in 64 bits.
+fn put_short(text: &mut Text, magnitude: u64, places: u32)
+    requires few { places ≤ 19 }
+    requires room { array_string_len text.old + 101 ≤ 112 }
+    ensures { text.new.bytes ≡ text.old.bytes ++ magnitude_text magnitude places }
+{
+    let power = 10u64.pow(places);
+    let whole = magnitude / power;
+    let rest = magnitude % power;
+    put_short_digits(text, whole);
+    if rest != 0 {
+        text.push_str(".");
+        put_short_places(text, rest, places, power);
+    }
+}
+
 /// Appends the text of `magnitude / 10^places`.
 fn put_lowered(text: &mut Text, magnitude: u128, places: u32)
     requires within { magnitude ≤ limit }
@@ -91,6 +140,10 @@ fn put_lowered(text: &mut Text, magnitude: u128, places: u32)
     requires room { array_string_len text.old + 101 ≤ 112 }
     ensures { text.new.bytes ≡ text.old.bytes ++ magnitude_text magnitude places }
 {
+    if places <= SHORT_PLACES && magnitude <= u128::from(u64::MAX) {
+        put_short(text, magnitude as u64, places);
+        return;
+    }
     let (whole, rest) = split_whole(magnitude, places);
     put_digits(text, whole);
     if rest != 0 {
@@ -115,7 +168,7 @@ fn sign_of(number: i128) -> Text
 pub fn text_of(number: i128, up: u32) -> Text
     requires within { unsigned_abs number ≤ limit }
     requires high { up ≤ 2 * shift_limit }
-    ensures { result.bytes ≡ sign_text number ++ magnitude_text (unsigned_abs number * 10 ^ up) shift_limit }
+    ensures { let n = unsigned_abs number * 10 ^ up in result.bytes ≡ sign_text number ++ magnitude_text n shift_limit }
 {
     let mut text = sign_of(number);
     let magnitude = number.unsigned_abs();

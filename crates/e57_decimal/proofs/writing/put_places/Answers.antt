@@ -1,11 +1,6 @@
-use Rattle.std.proofs.Common.{◌≡◌, ℕ, suc, ◌+◌, ◌-◌, ◌/◌, ◌%◌, ◌^◌, ◌<◌, List, [], ◌∷◌, ◌++◌, length, sym, ap, subst, ◌∙◌, arith, length-append}
-use Rattle.std.proofs.lemmas.List.{append-nil}
-use Rattle.e57_decimal.proofs.Places.{places_none, places_end, places_put, rest_below}
+use Rattle.std.proofs.Common.{◌≡◌, ℕ, suc, ◌+◌, ◌-◌, ◌/◌, ◌%◌, ◌^◌, ◌<◌, [], ◌∷◌, length, sym, ap, subst, ◌∙◌, arith, length-append}
+use Rattle.e57_decimal.proofs.Places.{done_text, places_none, places_end, places_put, rest_below}
 use Rattle.e57_decimal.proofs.writing.put_places.Goals as goal
-
--- nothing is left to put
-done_text : (text rest old : List ℕ) → rest ≡ [] → text ++ rest ≡ old → text ≡ old
-done_text text rest old e h = sym (append-nil text) ∙ ap (λ (bs : List ℕ). text ++ bs) (sym e) ∙ h
 
 pub returns-then-rest-eq0 : goal.returns-then-rest-eq0
 returns-then-rest-eq0 c =
