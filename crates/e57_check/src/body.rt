@@ -14,6 +14,7 @@ use crate::fields::{block_length, judge_block, open_columns};
 use crate::packets::{none_passed, walk_to, walk_to_end};
 use crate::starts::Starts;
 use e57_base::{OpenFault, Source};
+use e57_column::records_at_a_time;
 use e57_layout::{Field, Fixed, Section};
 use e57_page::Pages;
 use e57_section::Packet;
@@ -54,10 +55,11 @@ pub fn judge_records<S: Source>(
         Ok(judging) => judging,
         Err(fault) => return Err(fault),
     };
+    let many = records_at_a_time(fields);
     let mut passed = none_passed(section);
     let mut at = 0;
     while at < section.count && !judging.columns.is_empty() {
-        let n = block_length(section.count - at);
+        let n = block_length(section.count - at, many);
         if let Err(fault) = judge_block(section, &mut judging, &mut block, pages, at, n) {
             return Err(fault);
         }

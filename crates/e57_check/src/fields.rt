@@ -11,7 +11,7 @@ ghost use Rattle.e57_tree.specs.Held.{AreCloudFields};
 ghost use Rattle.e57_check.specs.Starts.{IsField, IsWidth};
 ghost use Rattle.e57_check.specs.Judging.{AllAt, OpensColumns, GivesUp, JudgesBlock, ReadsNoRow, IsNoRefusal};
 
-use crate::block::{BLOCK, Block};
+use crate::block::Block;
 use crate::judge::{Judge, open_column};
 use crate::row::read_row;
 use e57_base::{Fault, OpenFault, Source};
@@ -38,17 +38,18 @@ impl Judging {
     }
 }
 
-/// How many of the records that are left are read at a time.
-pub fn block_length(left: u64) -> usize
-    requires { 0 < left }
+/// How many of the records that are left are read next, `many` at most.
+pub fn block_length(left: u64, many: usize) -> usize
+    requires left { 0 < left }
+    requires many { 0 < many }
     ensures some { 0 < result }
-    ensures few { result ≤ 1024 }
+    ensures few { result ≤ many }
     ensures most { result ≤ left }
 {
-    if left < BLOCK as u64 {
+    if left < many as u64 {
         left as usize
     } else {
-        BLOCK
+        many
     }
 }
 

@@ -1,12 +1,12 @@
 //! Reading words of 32 and of 64 bits.
 
-ghost use Rattle.std.specs.Prelude.{◌≡◌, ◌+◌, ◌*◌, ◌/◌, ◌<◌, ◌≤◌, length, IsSome, MatchResult};
+ghost use Rattle.std.specs.Prelude.{◌≡◌, ◌+◌, ◌*◌, ◌/◌, ◌<◌, ◌≤◌, length, IsSome};
 ghost use Rattle.e57_base.specs.Source.{page_length};
 ghost use Rattle.e57_page.specs.Place.{payload_length};
 ghost use Rattle.e57_layout.specs.Values.{word};
 ghost use Rattle.e57_section.specs.Opening.{LiesIn};
-ghost use Rattle.e57_column.specs.Column.{IsColumn, placed, wanted as the_wanted};
-ghost use Rattle.e57_column.specs.Reading.{ReadsInto, StopsInto};
+ghost use Rattle.e57_column.specs.Column.{IsColumn, placed};
+ghost use Rattle.e57_column.specs.Answers.{AnswersAll, AnswersSome};
 
 use crate::going::go_to;
 use crate::ints::wanted;
@@ -30,9 +30,8 @@ pub fn read_bits32<S: Source>(
     ensures length { pages.new.length ≡ pages.old.length }
     ensures header { pages.new.header ≡ pages.old.header }
     ensures column { IsColumn state.new }
-    ensures items { MatchResult result
-        (λ n. (n ≡ the_wanted state.old (length out.old)) × ReadsInto 0 word (S.view pages.old.source) state.old n out.old out.new (S.view pages.new.source) state.new)
-        (λ stopped. StopsInto 0 word (S.view pages.old.source) state.old (the_wanted state.old (length out.old)) stopped.done stopped.fault out.old out.new (S.view pages.new.source) state.new) }
+    ensures items { AnswersAll 0 word (S.view pages.old.source) state.old out.old
+        result (S.view pages.new.source) state.new out.new }
 {
     let want = wanted(state, out.len());
     let mut done = 0;
@@ -66,9 +65,8 @@ fn step_bits32<S: Source>(
     ensures length { pages.new.length ≡ pages.old.length }
     ensures header { pages.new.header ≡ pages.old.header }
     ensures column { IsColumn state.new }
-    ensures items { MatchResult result
-        (λ n. (0 < n) × (n ≤ length out.old) × ReadsInto 0 word (S.view pages.old.source) state.old n out.old out.new (S.view pages.new.source) state.new)
-        (λ stopped. StopsInto 0 word (S.view pages.old.source) state.old (length out.old) stopped.done stopped.fault out.old out.new (S.view pages.new.source) state.new) }
+    ensures items { AnswersSome 0 word (S.view pages.old.source) state.old out.old
+        result (S.view pages.new.source) state.new out.new }
 {
     let at = state.chunk.at;
     if let Err(fault) = go_to(state, pages, packet, at) {
@@ -97,9 +95,8 @@ pub fn read_bits64<S: Source>(
     ensures length { pages.new.length ≡ pages.old.length }
     ensures header { pages.new.header ≡ pages.old.header }
     ensures column { IsColumn state.new }
-    ensures items { MatchResult result
-        (λ n. (n ≡ the_wanted state.old (length out.old)) × ReadsInto 0 word (S.view pages.old.source) state.old n out.old out.new (S.view pages.new.source) state.new)
-        (λ stopped. StopsInto 0 word (S.view pages.old.source) state.old (the_wanted state.old (length out.old)) stopped.done stopped.fault out.old out.new (S.view pages.new.source) state.new) }
+    ensures items { AnswersAll 0 word (S.view pages.old.source) state.old out.old
+        result (S.view pages.new.source) state.new out.new }
 {
     let want = wanted(state, out.len());
     let mut done = 0;
@@ -133,9 +130,8 @@ fn step_bits64<S: Source>(
     ensures length { pages.new.length ≡ pages.old.length }
     ensures header { pages.new.header ≡ pages.old.header }
     ensures column { IsColumn state.new }
-    ensures items { MatchResult result
-        (λ n. (0 < n) × (n ≤ length out.old) × ReadsInto 0 word (S.view pages.old.source) state.old n out.old out.new (S.view pages.new.source) state.new)
-        (λ stopped. StopsInto 0 word (S.view pages.old.source) state.old (length out.old) stopped.done stopped.fault out.old out.new (S.view pages.new.source) state.new) }
+    ensures items { AnswersSome 0 word (S.view pages.old.source) state.old out.old
+        result (S.view pages.new.source) state.new out.new }
 {
     let at = state.chunk.at;
     if let Err(fault) = go_to(state, pages, packet, at) {

@@ -9,9 +9,9 @@ ghost use Rattle.e57_cloud.specs.PathItem.{constant_of};
 ghost use Rattle.e57_section.specs.Opening.{LiesIn};
 ghost use Rattle.e57_ahead.specs.Counting.{IsWidth};
 ghost use Rattle.e57_column.specs.Finding.{IsFinder, FinderStands};
-ghost use Rattle.e57_column.specs.Column.{kind_of, AreItems, IsColumn, placed, wanted};
-ghost use Rattle.e57_column.specs.Reading.{IsOpened, is_quiet as the_is_quiet, Seeks, SeeksNot, ReadsInto, StopsInto, AreWhole};
-ghost use Rattle.e57_column.specs.Texts.{ReadsTexts, StopsTexts};
+ghost use Rattle.e57_column.specs.Column.{kind_of, AreItems, IsColumn, placed};
+ghost use Rattle.e57_column.specs.Reading.{IsOpened, is_quiet as the_is_quiet, Seeks, SeeksNot, AreWhole};
+ghost use Rattle.e57_column.specs.Answers.{AnswersAll, AnswersTexts};
 
 use crate::bits::{read_bits32, read_bits64};
 use crate::finder::Finder;
@@ -125,7 +125,8 @@ impl Column {
         requires within { i ≤ self.old.stream.section.count }
         ensures length { pages.new.length ≡ pages.old.length }
         ensures header { pages.new.header ≡ pages.old.header }
-        ensures quiet { (i ≡ self.old.stream.section.count) ⊎ (constant_of (kind_of self.old.items) ≢ None) → IsOk result × (pages.new ≡ pages.old) }
+        ensures quiet { (i ≡ self.old.stream.section.count) ⊎ (constant_of (kind_of self.old.items) ≢ None)
+            → IsOk result × (pages.new ≡ pages.old) }
         ensures seeks { MatchResult result
             (λ _. Seeks (S.view pages.old.source) self.old i (S.view pages.new.source) self.new)
             (λ fault. SeeksNot (S.view pages.old.source) self.old i fault (S.view pages.new.source) self.new) }
@@ -155,9 +156,8 @@ impl Column {
         requires kind { AreWhole (kind_of self.old.items) }
         ensures length { pages.new.length ≡ pages.old.length }
         ensures header { pages.new.header ≡ pages.old.header }
-        ensures items { MatchResult result
-            (λ n. (n ≡ wanted self.old (length out.old)) × ReadsInto (pos 0) whole (S.view pages.old.source) self.old n out.old out.new (S.view pages.new.source) self.new)
-            (λ stopped. StopsInto (pos 0) whole (S.view pages.old.source) self.old (wanted self.old (length out.old)) stopped.done stopped.fault out.old out.new (S.view pages.new.source) self.new) }
+        ensures items { AnswersAll (pos 0) whole (S.view pages.old.source) self.old out.old
+            result (S.view pages.new.source) self.new out.new }
     {
         read_ints(&mut self.state, pages, &mut self.packet, out)
     }
@@ -174,9 +174,8 @@ impl Column {
         requires kind { kind_of self.old.items ≡ ItemKind.words 32 }
         ensures length { pages.new.length ≡ pages.old.length }
         ensures header { pages.new.header ≡ pages.old.header }
-        ensures items { MatchResult result
-            (λ n. (n ≡ wanted self.old (length out.old)) × ReadsInto 0 word (S.view pages.old.source) self.old n out.old out.new (S.view pages.new.source) self.new)
-            (λ stopped. StopsInto 0 word (S.view pages.old.source) self.old (wanted self.old (length out.old)) stopped.done stopped.fault out.old out.new (S.view pages.new.source) self.new) }
+        ensures items { AnswersAll 0 word (S.view pages.old.source) self.old out.old
+            result (S.view pages.new.source) self.new out.new }
     {
         read_bits32(&mut self.state, pages, &mut self.packet, out)
     }
@@ -193,9 +192,8 @@ impl Column {
         requires kind { kind_of self.old.items ≡ ItemKind.words 64 }
         ensures length { pages.new.length ≡ pages.old.length }
         ensures header { pages.new.header ≡ pages.old.header }
-        ensures items { MatchResult result
-            (λ n. (n ≡ wanted self.old (length out.old)) × ReadsInto 0 word (S.view pages.old.source) self.old n out.old out.new (S.view pages.new.source) self.new)
-            (λ stopped. StopsInto 0 word (S.view pages.old.source) self.old (wanted self.old (length out.old)) stopped.done stopped.fault out.old out.new (S.view pages.new.source) self.new) }
+        ensures items { AnswersAll 0 word (S.view pages.old.source) self.old out.old
+            result (S.view pages.new.source) self.new out.new }
     {
         read_bits64(&mut self.state, pages, &mut self.packet, out)
     }
@@ -220,9 +218,8 @@ impl Column {
         requires kind { kind_of self.old.items ≡ ItemKind.strings }
         ensures length { pages.new.length ≡ pages.old.length }
         ensures header { pages.new.header ≡ pages.old.header }
-        ensures texts { MatchResult result
-            (λ read. ReadsTexts (S.view pages.old.source) self.old (wanted self.old (length ends.old)) read bytes.old bytes.new ends.old ends.new (S.view pages.new.source) self.new)
-            (λ stopped. StopsTexts (S.view pages.old.source) self.old (wanted self.old (length ends.old)) stopped.done stopped.fault bytes.old bytes.new ends.old ends.new (S.view pages.new.source) self.new) }
+        ensures texts { AnswersTexts (S.view pages.old.source) self.old bytes.old ends.old
+            result (S.view pages.new.source) self.new bytes.new ends.new }
     {
         read_texts(&mut self.state, pages, &mut self.packet, bytes, ends)
     }

@@ -9,7 +9,8 @@ ghost use Rattle.e57_section.specs.Opening.{LiesIn};
 ghost use Rattle.e57_column.specs.Finding.{IsFinder, FindsNot};
 ghost use Rattle.e57_column.specs.Column.{kind_of, IsColumn, placed, wanted as the_wanted};
 ghost use Rattle.e57_column.specs.Going.{FindsPaths};
-ghost use Rattle.e57_column.specs.Reading.{ReadsInto, StopsInto, AreWhole, IsLimited};
+ghost use Rattle.e57_column.specs.Reading.{AreWhole, IsLimited};
+ghost use Rattle.e57_column.specs.Answers.{AnswersAll, AnswersSome};
 
 use crate::finder::find_chunk;
 use crate::going::go_to;
@@ -33,9 +34,8 @@ pub fn read_ints<S: Source>(
     ensures length { pages.new.length ≡ pages.old.length }
     ensures header { pages.new.header ≡ pages.old.header }
     ensures column { IsColumn state.new }
-    ensures items { MatchResult result
-        (λ n. (n ≡ the_wanted state.old (length out.old)) × ReadsInto (pos 0) whole (S.view pages.old.source) state.old n out.old out.new (S.view pages.new.source) state.new)
-        (λ stopped. StopsInto (pos 0) whole (S.view pages.old.source) state.old (the_wanted state.old (length out.old)) stopped.done stopped.fault out.old out.new (S.view pages.new.source) state.new) }
+    ensures items { AnswersAll (pos 0) whole (S.view pages.old.source) state.old out.old
+        result (S.view pages.new.source) state.new out.new }
 {
     let want = wanted(state, out.len());
     let mut done = 0;
@@ -78,9 +78,8 @@ fn step_ints<S: Source>(
     ensures length { pages.new.length ≡ pages.old.length }
     ensures header { pages.new.header ≡ pages.old.header }
     ensures column { IsColumn state.new }
-    ensures items { MatchResult result
-        (λ n. (0 < n) × (n ≤ length out.old) × ReadsInto (pos 0) whole (S.view pages.old.source) state.old n out.old out.new (S.view pages.new.source) state.new)
-        (λ stopped. StopsInto (pos 0) whole (S.view pages.old.source) state.old (length out.old) stopped.done stopped.fault out.old out.new (S.view pages.new.source) state.new) }
+    ensures items { AnswersSome (pos 0) whole (S.view pages.old.source) state.old out.old
+        result (S.view pages.new.source) state.new out.new }
 {
     let Items::Whole(range) = state.items else {
         unreachable!()
@@ -119,9 +118,8 @@ fn step_constant<S: Source>(
     ensures length { pages.new.length ≡ pages.old.length }
     ensures header { pages.new.header ≡ pages.old.header }
     ensures column { IsColumn state.new }
-    ensures items { MatchResult result
-        (λ n. (0 < n) × (n ≤ length out.old) × ReadsInto (pos 0) whole (S.view pages.old.source) state.old n out.old out.new (S.view pages.new.source) state.new)
-        (λ stopped. StopsInto (pos 0) whole (S.view pages.old.source) state.old (length out.old) stopped.done stopped.fault out.old out.new (S.view pages.new.source) state.new) }
+    ensures items { AnswersSome (pos 0) whole (S.view pages.old.source) state.old out.old
+        result (S.view pages.new.source) state.new out.new }
 {
     let n = match find_constant(state, pages, out.len()) {
         Ok(n) => n,
@@ -158,7 +156,9 @@ fn find_constant<S: Source>(
     ensures finder { IsFinder state.old.stream.section state.old.stream.fixed state.new.finder }
     ensures paths { MatchResult result
         (λ n. (0 < n) × (n ≤ places) × FindsPaths (S.view pages.old.source) state.old n (S.view pages.new.source) state.new.finder)
-        (λ fault. FindsNot (S.view pages.old.source) state.old.stream state.old.finder state.old.chunk.at fault (S.view pages.new.source) state.new.finder × ((state.old.stream.section.index == 0) ≡ false)) }
+        (λ fault. FindsNot (S.view pages.old.source) state.old.stream state.old.finder state.old.chunk.at fault
+        (S.view pages.new.source) state.new.finder
+        × ((state.old.stream.section.index == 0) ≡ false)) }
 {
     if state.stream.section.index == 0 {
         return Ok(places);

@@ -9,11 +9,13 @@ mod going;
 mod ints;
 mod state;
 mod texts;
+mod together;
 
 pub use column::Column;
 pub use e57_ahead::{Ahead, Covered};
 pub use e57_stream::Stopped;
 pub use texts::TextsRead;
+pub use together::records_at_a_time;
 
 #[cfg(test)]
 mod tests;

@@ -4,9 +4,10 @@ ghost use Rattle.std.specs.Prelude.{◌≡◌, ◌+◌, ◌*◌, ◌/◌, ◌^�
 ghost use Rattle.e57_base.specs.Source.{page_length};
 ghost use Rattle.e57_page.specs.Place.{payload_length};
 ghost use Rattle.e57_section.specs.Opening.{LiesIn};
-ghost use Rattle.e57_column.specs.Column.{IsColumn, placed, wanted as the_wanted};
-ghost use Rattle.e57_column.specs.Texts.{left_over as the_left, ReadsTexts, StopsTexts, ReadsSome, StopsSome};
+ghost use Rattle.e57_column.specs.Column.{IsColumn, placed};
+ghost use Rattle.e57_column.specs.Texts.{left_over as the_left, ReadsSome, StopsSome};
 ghost use Rattle.e57_texts.specs.Reading.{begin_of};
+ghost use Rattle.e57_column.specs.Answers.{AnswersTexts};
 
 use crate::going::go_to;
 use crate::ints::wanted;
@@ -41,9 +42,8 @@ pub fn read_texts<S: Source>(
     ensures length { pages.new.length ≡ pages.old.length }
     ensures header { pages.new.header ≡ pages.old.header }
     ensures column { IsColumn state.new }
-    ensures texts { MatchResult result
-        (λ read. ReadsTexts (S.view pages.old.source) state.old (the_wanted state.old (length ends.old)) read bytes.old bytes.new ends.old ends.new (S.view pages.new.source) state.new)
-        (λ stopped. StopsTexts (S.view pages.old.source) state.old (the_wanted state.old (length ends.old)) stopped.done stopped.fault bytes.old bytes.new ends.old ends.new (S.view pages.new.source) state.new) }
+    ensures texts { AnswersTexts (S.view pages.old.source) state.old bytes.old ends.old
+        result (S.view pages.new.source) state.new bytes.new ends.new }
 {
     let want = wanted(state, ends.len());
     let mut done = 0;
@@ -113,8 +113,11 @@ fn step_texts<S: Source>(
     ensures header { pages.new.header ≡ pages.old.header }
     ensures column { IsColumn state.new }
     ensures texts { MatchResult result
-        (λ some. (some.filled ≡ begin_of filled ends.new some.count) × ReadsSome (S.view pages.old.source) state.old filled some.count some.next bytes.old bytes.new ends.old ends.new (S.view pages.new.source) state.new)
-        (λ stopped. StopsSome (S.view pages.old.source) state.old filled (length ends.old) stopped.done stopped.fault bytes.old bytes.new ends.old ends.new (S.view pages.new.source) state.new) }
+        (λ some. (some.filled ≡ begin_of filled ends.new some.count)
+        × ReadsSome (S.view pages.old.source) state.old filled some.count some.next
+        bytes.old bytes.new ends.old ends.new (S.view pages.new.source) state.new)
+        (λ stopped. StopsSome (S.view pages.old.source) state.old filled (length ends.old) stopped.done stopped.fault
+        bytes.old bytes.new ends.old ends.new (S.view pages.new.source) state.new) }
 {
     let at = state.chunk.at;
     if let Err(fault) = go_to(state, pages, packet, at) {

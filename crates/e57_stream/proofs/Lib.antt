@@ -1,6 +1,7 @@
 pub mod AskingLaws
 pub mod StandingLaws
 pub mod ReadingLaws
+pub mod Spare
 pub mod Windows
 pub mod Takings
 pub mod Parts

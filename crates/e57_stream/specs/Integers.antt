@@ -7,7 +7,7 @@ use Rattle.e57_base.specs.Source.{SourceView}
 use Rattle.e57_base.specs.declared.fault.Fault.{Fault}
 use Rattle.e57_base.specs.declared.fault.ReadFault.{ReadFault}
 use Rattle.e57_base.specs.declared.kind.Kind.TheVariants.{ValueRange}
-use Rattle.e57_lanes.specs.Unpack.{Written}
+use Rattle.e57_lanes.specs.Unpack.{Written, Unpacks}
 use Rattle.e57_layout.specs.Values.{ItemKind, integers, Value, whole}
 use Rattle.e57_layout.specs.Widths.{width}
 use Rattle.e57_stream.specs.declared.bytestream.Bytestream.{Bytestream}
@@ -50,6 +50,11 @@ pub record ReadsIntegers (source : SourceView) (b : Bytestream) (range : Integer
 pub record StopsIntegers (source : SourceView) (b : Bytestream) (range : Integers) (before : Chunk) (want done : ℕ) (found : ReadFault) (old new : List ℤ) (after : Chunk) (source' : SourceView) : Type 0 where
   pub fills : FillsIntegers range done old new
   pub stops : StopsAt source b (kind_of range) before want done found (whole_at new) after source'
+
+-- what unpacking from a bit of these bytes on answers
+abbrev pub UnpacksFrom : Integers → List ℕ → ℕ → List ℤ → Result (Unit {0}) ℕ → List ℤ → Type 0
+UnpacksFrom range bytes bit old result new =
+    Unpacks (drop (bit / 8) bytes) (bit % 8) range.width range.low (int_gap range.low range.high) old result new
 
 -- the numbers of the window from the next item on
 abbrev pub WindowWritten : Integers → Chunk → ℕ → List ℤ → List ℤ → Type 0

@@ -4,14 +4,14 @@ ghost use Rattle.std.specs.Prelude.{◌≡◌, ◌+◌, ◌-◌, ◌*◌, ◌/�
 ghost use Rattle.std.specs.Int.{int_gap};
 ghost use Rattle.e57_base.specs.Source.{page_length};
 ghost use Rattle.e57_page.specs.Place.{payload_length};
-ghost use Rattle.e57_lanes.specs.Unpack.{Unpacks};
 ghost use Rattle.e57_section.specs.Opening.{LiesIn};
 ghost use Rattle.e57_stream.specs.Standing.{IsWithin, IsOnward, wanted as the_wanted};
-ghost use Rattle.e57_stream.specs.Integers.{IsRange, range_at, TakesIntegers, ReadsIntegers, StopsIntegers};
+ghost use Rattle.e57_stream.specs.Integers.{IsRange, range_at, TakesIntegers, ReadsIntegers, StopsIntegers, UnpacksFrom};
 
 use crate::bytestream::{Bytestream, Integers, Stopped};
 use crate::chunk::{Chunk, held_for, let_go, wanted};
 use crate::taking::take_packet;
+use crate::window::Window;
 use e57_base::{Fault, Kind, ReadFault, Source};
 use e57_lanes::unpack;
 use e57_page::Pages;
@@ -124,23 +124,33 @@ fn take_integers(range: &Integers, chunk: &mut Chunk, out: &mut [i64]) -> Result
     requires left { chunk.old.at + length out.old ≤ chunk.old.until }
     ensures { TakesIntegers range.now chunk.old out.old result chunk.new out.new }
 {
+    let _size = chunk.window.len();
     let count = held_for(chunk, range.width, out.len());
     let until = chunk.until;
     prove!(count as u64 <= until);
     if count == 0 {
         return Ok(0);
     }
-    unpack_at(chunk.window.bytes(), chunk.bit, range, &mut out[..count])?;
+    unpack_held(&chunk.window, chunk.bit, range, &mut out[..count])?;
     chunk.at += count as u64;
     chunk.bit += range.width as u64 * count as u64;
     Ok(count)
+}
+
+/// Unpacks the items from bit `bit` of a window on.
+fn unpack_held(window: &Window, bit: u64, range: &Integers, out: &mut [i64]) -> Result<(), usize>
+    requires range { IsRange range.now }
+    requires there { bit + range.now.width * length out.old ≤ 8 * length window.now }
+    ensures { UnpacksFrom range.now window.now bit out.old result out.new }
+{
+    unpack_at(window.with_spare(), bit, range, out)
 }
 
 /// Unpacks the items from bit `bit` on.
 fn unpack_at(bytes: &[u8], bit: u64, range: &Integers, out: &mut [i64]) -> Result<(), usize>
     requires range { IsRange range.now }
     requires there { bit + range.now.width * length out.old ≤ 8 * length bytes.now }
-    ensures { Unpacks (drop (bit / 8) bytes.now) (bit % 8) range.now.width range.now.low (int_gap range.now.low range.now.high) out.old result out.new }
+    ensures { UnpacksFrom range.now bytes.now bit out.old result out.new }
 {
     let skipped = (bit / 8) as usize;
     let phase = (bit % 8) as u8;

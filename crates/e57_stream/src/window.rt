@@ -51,6 +51,16 @@ impl Window {
         &self.buffer[self.begin..self.end]
     }
 
+    /// The bytes, and behind them what stands in the buffer up to its end. A number is unpacked faster where there are bytes
+    /// behind it.
+    #[inline]
+    pub fn with_spare(&self) -> &[u8]
+        ensures bytes { take (length self.now) result.now ≡ self.now }
+        ensures spare { length self.now ≤ length result.now }
+    {
+        &self.buffer[self.begin..]
+    }
+
     /// How many bytes there are.
     #[inline]
     pub fn len(&self) -> usize

@@ -17,7 +17,6 @@ pub returns : goal.returns
 unfolding moved_on
 returns c =
     let count = c.held_for-count.ensures in
-    let bytes = c.bytes.ensures.bytes in
     let room : c.held_for-count.result ≤ length c.args.out.now = omega (arith, count) in
-    let written : Written (drop (c.args.chunk.now.bit / 8) c.args.chunk.now.window) (c.args.chunk.now.bit % 8) c.args.range.now.width c.args.range.now.low (int_gap c.args.range.now.low c.args.range.now.high) 0 c.held_for-count.result (take c.held_for-count.result c.args.out.now) c.unpack_at.new.out = rw (← bytes) (all_written _ _ _ _ _ c.held_for-count.result (take c.held_for-count.result c.args.out.now) c.unpack_at.new.out (length-take-le c.held_for-count.result c.args.out.now room) c.in_ok-unpack_at.ensures) in
-    (count, refl, written_front (drop (c.args.chunk.now.bit / 8) c.args.chunk.now.window) (c.args.chunk.now.bit % 8) c.args.range.now.width c.args.range.now.low (int_gap c.args.range.now.low c.args.range.now.high) c.held_for-count.result c.args.out.now c.unpack_at.new.out room written)
+    let written : Written (drop (c.args.chunk.now.bit / 8) c.args.chunk.now.window) (c.args.chunk.now.bit % 8) c.args.range.now.width c.args.range.now.low (int_gap c.args.range.now.low c.args.range.now.high) 0 c.held_for-count.result (take c.held_for-count.result c.args.out.now) c.unpack_held.new.out = all_written _ _ _ _ _ c.held_for-count.result (take c.held_for-count.result c.args.out.now) c.unpack_held.new.out (length-take-le c.held_for-count.result c.args.out.now room) c.in_ok-unpack_held.ensures in
+    (count, refl, written_front (drop (c.args.chunk.now.bit / 8) c.args.chunk.now.window) (c.args.chunk.now.bit % 8) c.args.range.now.width c.args.range.now.low (int_gap c.args.range.now.low c.args.range.now.high) c.held_for-count.result c.args.out.now c.unpack_held.new.out room written)
