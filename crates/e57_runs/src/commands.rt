@@ -58,11 +58,11 @@ e57 list FILE    list the clouds with their fields, and the blobs
 e57 check FILE   judge the whole file
 e57 blob FILE K  write the bytes of blob K
 e57 extract FILE CLOUD [--fields=A,B] [--from=I] [--count=N]  write records as rows
-e57 --help       show this text
+e57 --help       show this text, as -h does
 e57 --version    show the version
 status 0   done
 status 1   the file has a fault
-status 2   the words ask for nothing
+status 2   the words are no valid command
 status 3   the file couldn't be opened or read
 status 4   the output couldn't be written
 status 5   out of memory
@@ -70,7 +70,7 @@ status 6   the file doesn't have what was asked for
 ";
 
 #[rattlefmt::skip]
-const CASES: [Case; 26] = [
+const CASES: [Case; 28] = [
     (PAGES, Content::TwoPages, Status::Done, LINE, "", &[0, 0, 1]),
     (PAGES, Content::OtherWordOrder, Status::Done, LINE, "", &[0, 0, 1]),
     (PAGES, Content::ThreeRecords, Status::Done, "pages 3 xml 2048 320\n", "", &[0, 0, 1, 2]),
@@ -87,11 +87,13 @@ const CASES: [Case; 26] = [
     (&["list", "scan"], Content::OddLength, Status::Refused, "", "refused FileLength 1500 0\n", &[]),
     (&["list", "absent"], Content::TwoPages, Status::SourceFault, "", "source fault\n", &[]),
     (&["--help"], Content::TwoPages, Status::Done, HELP, "", &[]),
+    (&["-h"], Content::TwoPages, Status::Done, HELP, "", &[]),
     (&["--version"], Content::TwoPages, Status::Done, "e57 0.1.0\n", "", &[]),
     (&[], Content::TwoPages, Status::WordsFault, "", "words 0\n", &[]),
     (&["unknown"], Content::TwoPages, Status::WordsFault, "", "words 0\n", &[]),
     (&["--x"], Content::TwoPages, Status::WordsFault, "", "words 0\n", &[]),
     (&["--help", "x"], Content::TwoPages, Status::WordsFault, "", "words 1\n", &[]),
+    (&["-h", "x"], Content::TwoPages, Status::WordsFault, "", "words 1\n", &[]),
     (&["--version", "x"], Content::TwoPages, Status::WordsFault, "", "words 1\n", &[]),
     (&["pages"], Content::TwoPages, Status::WordsFault, "", "words 1\n", &[]),
     (&["pages", "--all", "scan"], Content::TwoPages, Status::WordsFault, "", "words 1\n", &[]),

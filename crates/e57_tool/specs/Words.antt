@@ -9,7 +9,7 @@ use Rattle.e57_tool.specs.declared.words.Ask.TheVariants as asked
 
 -- a command with its places
 pub data Command : Type 0 where
-  -- `--help`
+  -- `--help`, `-h`
   HelpAsked : Command
   -- `--version`
   VersionAsked : Command
@@ -68,6 +68,7 @@ extract_ask unread = of_file (next_place unread) where
 unfoldable pub command_ask : List ℕ → Unread → Result Command ℕ
 command_ask command words =
     if bytes_eq command (codes "--help") then at_end HelpAsked words
+    else if bytes_eq command (codes "-h") then at_end HelpAsked words
     else if bytes_eq command (codes "--version") then at_end VersionAsked words
     else if bytes_eq command (codes "pages") then with_place PagesOf (only_place words)
     else if bytes_eq command (codes "info") then with_place InfoOf (only_place words)

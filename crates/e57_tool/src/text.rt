@@ -13,11 +13,11 @@ e57 list FILE    list the clouds with their fields, and the blobs
 e57 check FILE   judge the whole file
 e57 blob FILE K  write the bytes of blob K
 e57 extract FILE CLOUD [--fields=A,B] [--from=I] [--count=N]  write records as rows
-e57 --help       show this text
+e57 --help       show this text, as -h does
 e57 --version    show the version
 status 0   done
 status 1   the file has a fault
-status 2   the words ask for nothing
+status 2   the words are no valid command
 status 3   the file couldn't be opened or read
 status 4   the output couldn't be written
 status 5   out of memory

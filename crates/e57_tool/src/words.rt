@@ -11,7 +11,7 @@ use e57_show::RowsAsk;
 /// What the words ask for: a command with its places and options.
 #[derive(Clone, Copy, Debug, PartialEq, Eq)]
 pub enum Ask<'a> {
-    /// `--help`
+    /// `--help`, `-h`
     Help,
     /// `--version`
     Version,
@@ -85,6 +85,7 @@ fn read_command<'a>(command: &str, words: Cursor<'a>) -> Result<Ask<'a>, WordFau
 {
     match command {
         "--help" => no_place(Ask::Help, words),
+        "-h" => no_place(Ask::Help, words),
         "--version" => no_place(Ask::Version, words),
         "pages" => Ok(Ask::Pages(only_place(words)?)),
         "info" => Ok(Ask::Info(only_place(words)?)),
