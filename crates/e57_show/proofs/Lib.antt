@@ -7,3 +7,5 @@ pub mod Rowing
 pub mod Records
 pub mod Selecting
 pub mod RowsShown
+pub mod Walking
+pub mod Rising

@@ -8,3 +8,4 @@ pub mod Blob
 pub mod BlobPutting
 pub mod Extract
 pub mod Extracting
+pub mod Trail

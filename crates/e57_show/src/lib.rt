@@ -8,6 +8,7 @@ mod listing;
 mod rows;
 mod select;
 mod shown;
+mod trail;
 
 pub use ask::RowsAsk;
 pub use bytes::blob;

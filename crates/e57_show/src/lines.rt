@@ -9,7 +9,7 @@ use itoa::Buffer;
 use std::alloc::AllocError;
 
 /// Appends a text and a number in decimal.
-fn push_number(line: &mut Vec<u8>, text: &[u8], number: u64) -> Result<(), AllocError>
+pub fn push_number(line: &mut Vec<u8>, text: &[u8], number: u64) -> Result<(), AllocError>
     ensures { OnOk result (line.new.items ≡ line.old.items ++ (text.now ++ decimal number)) }
 {
     line.extend_from_slice(text)?;

@@ -1,15 +1,18 @@
 //! The clouds and blobs of a file, in lines.
 
-ghost use Rattle.std.specs.Prelude.{◌≡◌, ◌++◌, IfOk, MatchResult, None, OnOk, Some};
+ghost use Rattle.std.specs.Prelude.{◌≡◌, IfOk, MatchResult, None, OnOk, Some};
 ghost use Rattle.e57_elements.specs.Tree.{Element, preorder};
 ghost use Rattle.e57_nodes.specs.Shape.{shape_of};
 ghost use Rattle.e57_file.specs.Text.{AsksForXml};
 ghost use Rattle.e57_show.specs.Opening.{JudgesPlaceFirst};
 ghost use Rattle.e57_show.specs.Listing.{list_shown, list_text};
 ghost use Rattle.e57_show.specs.Showing.{ShowEnds};
-ghost use Rattle.e57_show.specs.Items.{IsCloud, IsBlob, IsItem, cloud_text, blob_text, item_text};
+ghost use Rattle.e57_show.specs.Items.{IsItemFrom, AppendsItem};
+ghost use Rattle.e57_show.specs.Trail.{IsTrail};
+ghost use Rattle.e57_tree.specs.declared.items.Item.TheVariants as item;
 
 use crate::lines::{push_blob, push_cloud, push_fields};
+use crate::trail::Trail;
 use e57_base::{RunFault, Sink, Source};
 use e57_elements::one_answer;
 use e57_file::E57;
@@ -48,43 +51,52 @@ pub fn list<S: Source, O: Sink>(
 fn listing(alloc: Global, tree: &Tree) -> Result<Vec<u8>, AllocError>
     ensures { (e : Element) → tree.now ≡ preorder e → IfOk result (λ text. text.items ≡ list_text (shape_of e)) }
 {
-    let _raw = tree.raw();
     let mut lines = Vec::new(alloc);
+    let mut trail = Trail::new(alloc, tree.raw())?;
     for item in tree.items() {
-        push_item(alloc, &mut lines, tree, *item)?;
+        push_item(&mut lines, tree, &mut trail, *item)?;
     }
     Ok(lines)
 }
 
-/// Appends the lines of a cloud or a blob.
-fn push_item(alloc: Global, lines: &mut Vec<u8>, tree: &Tree, item: Item) -> Result<(), AllocError>
-    requires { (e : Element) → tree.now ≡ preorder e → IsItem e item }
-    ensures { (e : Element) → tree.now ≡ preorder e → OnOk result (lines.new.items ≡ lines.old.items ++ item_text e item) }
+/// Appends the lines of a cloud or a blob, to whose node the trail goes.
+fn push_item(
+    lines: &mut Vec<u8>,
+    tree: &Tree,
+    trail: &mut Trail,
+    item: Item,
+) -> Result<(), AllocError>
+    requires item { (e : Element) → tree.now ≡ preorder e → IsItemFrom e trail.old.node item }
+    requires trail { IsTrail tree.now trail.old }
+    ensures lines { (e : Element) → tree.now ≡ preorder e → OnOk result (AppendsItem e item lines.old.items lines.new.items trail.new.node) }
+    ensures trail { OnOk result (IsTrail tree.now trail.new) }
 {
     match item {
-        Item::Cloud(k) => push_cloud_item(alloc, lines, tree, k),
-        Item::Blob(k) => push_blob_item(alloc, lines, tree, k),
+        Item::Cloud(k) => push_cloud_item(lines, tree, trail, k),
+        Item::Blob(k) => push_blob_item(lines, tree, trail, k),
     }
 }
 
 /// Appends the lines of cloud k and its fields.
 fn push_cloud_item(
-    alloc: Global,
     lines: &mut Vec<u8>,
     tree: &Tree,
+    trail: &mut Trail,
     k: u32,
 ) -> Result<(), AllocError>
-    requires { (e : Element) → tree.now ≡ preorder e → IsCloud e k }
-    ensures { (e : Element) → tree.now ≡ preorder e → OnOk result (lines.new.items ≡ lines.old.items ++ cloud_text e k) }
+    requires item { (e : Element) → tree.now ≡ preorder e → IsItemFrom e trail.old.node (item.Cloud k) }
+    requires trail { IsTrail tree.now trail.old }
+    ensures lines { (e : Element) → tree.now ≡ preorder e → OnOk result (AppendsItem e (item.Cloud k) lines.old.items lines.new.items trail.new.node) }
+    ensures trail { OnOk result (IsTrail tree.now trail.new) }
 {
-    let _raw = tree.raw();
+    let raw = tree.raw();
     let cloud = tree.clouds()[k as usize];
     let fields = tree.fields(k as usize);
-    let path = tree.path(alloc, cloud.node)?;
+    trail.go_to(raw, cloud.node as usize)?;
     push_cloud(
         lines,
         u64::from(k),
-        path.as_slice(),
+        &trail.path,
         cloud.count,
         fields.len() as u64,
     )?;
@@ -92,12 +104,19 @@ fn push_cloud_item(
 }
 
 /// Appends the line of blob k.
-fn push_blob_item(alloc: Global, lines: &mut Vec<u8>, tree: &Tree, k: u32) -> Result<(), AllocError>
-    requires { (e : Element) → tree.now ≡ preorder e → IsBlob e k }
-    ensures { (e : Element) → tree.now ≡ preorder e → OnOk result (lines.new.items ≡ lines.old.items ++ blob_text e k) }
+fn push_blob_item(
+    lines: &mut Vec<u8>,
+    tree: &Tree,
+    trail: &mut Trail,
+    k: u32,
+) -> Result<(), AllocError>
+    requires item { (e : Element) → tree.now ≡ preorder e → IsItemFrom e trail.old.node (item.Blob k) }
+    requires trail { IsTrail tree.now trail.old }
+    ensures lines { (e : Element) → tree.now ≡ preorder e → OnOk result (AppendsItem e (item.Blob k) lines.old.items lines.new.items trail.new.node) }
+    ensures trail { OnOk result (IsTrail tree.now trail.new) }
 {
-    let _raw = tree.raw();
+    let raw = tree.raw();
     let blob = tree.blobs()[k as usize];
-    let path = tree.path(alloc, blob.node)?;
-    push_blob(lines, u64::from(k), path.as_slice(), blob.length)
+    trail.go_to(raw, blob.node as usize)?;
+    push_blob(lines, u64::from(k), &trail.path, blob.length)
 }
