@@ -1,0 +1,20 @@
+-- A column of integers that is ready to be read, and a field of integers.
+use Rattle.std.specs.Prelude.{◌≡◌, ℕ, List, Some, slice_get}
+use Rattle.e57_lib.specs.Layout.Values.{item_kind}
+use Rattle.e57_lib.specs.Layout.field.Field.{Field}
+use Rattle.e57_lib.specs.Layout.section.Section.{Section}
+use Rattle.e57_lib.specs.Column.state.State.{State}
+use Rattle.e57_lib.specs.Column.Column.{kind_of, placed}
+use Rattle.e57_lib.specs.Column.Reading.{AreWhole}
+
+-- The column is one of this section's, has integers, and is placed at this record.
+pub record IsReady (s : Section) (i : ℕ) (c : State) : Type 0 where
+  pub of_section : c.stream.section ≡ s
+  pub integers : AreWhole (kind_of c.items)
+  pub is_at : placed c ≡ Some i
+
+-- The field with this number has integers.
+pub record IsWholeField (fields : List Field) (f : ℕ) : Type 0 where
+  pub field : Field
+  pub there : slice_get fields f ≡ Some field
+  pub integers : AreWhole (item_kind field.kind)

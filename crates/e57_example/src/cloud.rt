@@ -1,0 +1,122 @@
+//! The first cloud of a file, and its fields.
+
+ghost use Rattle.std.specs.Prelude.{◌≡◌, ◌<◌, ◌≤◌, ◌*◌, ◌/◌, length, IfOk, IfSome};
+ghost use Rattle.e57_lib.specs.Base.Source.{page_length};
+ghost use Rattle.e57_lib.specs.Page.Place.{payload_length};
+ghost use Rattle.e57_lib.specs.Layout.Values.{IsValidField, item_kind};
+ghost use Rattle.e57_lib.specs.Cloud.Cloud.{float_from};
+ghost use Rattle.e57_lib.specs.Nodes.Items.{leaves_of};
+ghost use Rattle.e57_lib.specs.Tree.Held.{AreCloudFields};
+ghost use Rattle.e57_lib.specs.Section.Opening.{LiesIn, most_records};
+ghost use Rattle.e57_lib.specs.Column.Reading.{AreWhole};
+ghost use Rattle.e57_lib.specs.Ahead.Counting.{IsWidth};
+ghost use Rattle.e57_example.specs.Ready.{IsReady, IsWholeField};
+
+use crate::sums::{Sums, sum_columns};
+use e57_lib::faults::{AskFault, RunFault};
+use e57_lib::files::{E57, Pages};
+use e57_lib::objects::Source;
+use e57_lib::records::{Column, Section, open_section};
+use e57_lib::trees::{Cloud, Field, FieldKind, Fixed};
+use std::alloc::Global;
+
+/// The sums of two fields of integers of the file's first cloud, by their paths.
+///
+/// Refuses what `E57::open` refuses; then `Ask` if there is no cloud, no field with a path, or a field that has no
+/// integers; then a fault of the section, and the first fault that is met when its records are read.
+pub fn sums_of<S: Source>(
+    alloc: Global,
+    pages: &mut Pages<S>,
+    first: &str,
+    second: &str,
+) -> Result<Sums, RunFault> {
+    let file = E57::open(alloc, pages)?;
+    let tree = file.tree();
+    let _nodes = tree.raw();
+    let clouds = tree.clouds();
+    if clouds.is_empty() {
+        return Err(RunFault::Ask(AskFault::Cloud { asked: 0, have: 0 }));
+    }
+    let cloud = clouds[0];
+    let fields = tree.fields(0);
+    let f = field_named(fields, first)?;
+    let g = field_named(fields, second)?;
+    sum_fields(alloc, cloud, fields, tree.fixed(0), f, g, pages)
+}
+
+/// The number of the first field with this path, which has integers.
+fn field_named(fields: &[Field], path: &str) -> Result<usize, RunFault>
+    ensures { IfOk result (IsWholeField fields.now) }
+{
+    for (f, field) in fields.iter().enumerate() {
+        if field.path.as_slice() == path.as_bytes() {
+            return match field.kind {
+                FieldKind::Int { .. } | FieldKind::Scaled { .. } => Ok(f),
+                _ => Err(RunFault::Ask(AskFault::NotInteger {
+                    asked: 0,
+                    have: f as u64,
+                })),
+            };
+        }
+    }
+    Err(RunFault::Ask(AskFault::Field {
+        asked: 0,
+        have: fields.len() as u64,
+    }))
+}
+
+/// The sums of fields f and g of a cloud.
+fn sum_fields<S: Source>(
+    alloc: Global,
+    cloud: Cloud,
+    fields: &[Field],
+    fixed: Option<Fixed>,
+    f: usize,
+    g: usize,
+    pages: &mut Pages<S>,
+) -> Result<Sums, RunFault>
+    requires few { cloud.count ≤ most_records }
+    requires fields { AreCloudFields fields.now }
+    requires fixed { fixed ≡ float_from 0 (leaves_of fields.now) }
+    requires is_f { IsWholeField fields.now f }
+    requires is_g { IsWholeField fields.now g }
+{
+    let _size = pages.logical_len();
+    if cloud.count == 0 {
+        return Ok(Sums::none());
+    }
+    let Cloud { node, place, count } = cloud;
+    let section = match open_section(pages, node, place, count, fields.len() as u16) {
+        Ok(section) => section,
+        Err(fault) => return Err(RunFault::from(fault)),
+    };
+    let mut first = open_column(alloc, &section, fixed, f as u16, &fields[f], pages)?;
+    let mut second = open_column(alloc, &section, fixed, g as u16, &fields[g], pages)?;
+    sum_columns(&section, &mut first, &mut second, pages)
+}
+
+/// The column of a field of integers, placed at record 0.
+fn open_column<S: Source>(
+    alloc: Global,
+    section: &Section,
+    fixed: Option<Fixed>,
+    f: u16,
+    field: &Field,
+    pages: &mut Pages<S>,
+) -> Result<Column, RunFault>
+    requires lies { LiesIn section.now (pages.old.length / page_length * payload_length) }
+    requires is_field { f < section.now.fields }
+    requires valid { IsValidField field.now }
+    requires fixed { IfSome fixed (λ x. (x.field < section.now.fields) × IsWidth x) }
+    requires integers { AreWhole (item_kind field.now.kind) }
+    ensures length { pages.new.length ≡ pages.old.length }
+    ensures ready { IfOk result (IsReady section.now 0) }
+{
+    let Ok(mut column) = Column::open(alloc, section, f, field, fixed) else {
+        return Err(RunFault::Memory);
+    };
+    match column.seek(pages, 0) {
+        Ok(()) => Ok(column),
+        Err(fault) => Err(RunFault::from(fault)),
+    }
+}

@@ -1,0 +1,14 @@
+pub mod Base
+pub mod Page
+pub mod Layout
+pub mod Cloud
+pub mod Elements
+pub mod Nodes
+pub mod Tree
+pub mod File
+pub mod Section
+pub mod Ahead
+pub mod Column
+pub mod Verdict
+pub mod Check
+pub mod Writing
