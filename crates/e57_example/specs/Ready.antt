@@ -1,6 +1,6 @@
 -- A column of integers that is ready to be read, and a field of integers.
-use Rattle.std.specs.Prelude.{◌≡◌, ℕ, List, Some, slice_get}
-use Rattle.e57_lib.specs.Layout.Values.{item_kind}
+use Rattle.std.specs.Prelude.{◌≡◌, ℕ, ◌<◌, Some}
+use Rattle.e57_lib.specs.Layout.Values.{item_kind, IsValidField}
 use Rattle.e57_lib.specs.Layout.field.Field.{Field}
 use Rattle.e57_lib.specs.Layout.section.Section.{Section}
 use Rattle.e57_lib.specs.Column.state.State.{State}
@@ -13,8 +13,8 @@ pub record IsReady (s : Section) (i : ℕ) (c : State) : Type 0 where
   pub integers : AreWhole (kind_of c.items)
   pub is_at : placed c ≡ Some i
 
--- The field with this number has integers.
-pub record IsWholeField (fields : List Field) (f : ℕ) : Type 0 where
-  pub field : Field
-  pub there : slice_get fields f ≡ Some field
+-- This is one of so many fields, with its number, and has integers.
+pub record IsWholeField (count number : ℕ) (field : Field) : Type 0 where
+  pub within : number < count
+  pub valid : IsValidField field
   pub integers : AreWhole (item_kind field.kind)

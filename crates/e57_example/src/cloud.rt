@@ -3,12 +3,10 @@
 ghost use Rattle.std.specs.Prelude.{◌≡◌, ◌<◌, ◌≤◌, ◌*◌, ◌/◌, length, IfOk, IfSome};
 ghost use Rattle.e57_lib.specs.Base.Source.{page_length};
 ghost use Rattle.e57_lib.specs.Page.Place.{payload_length};
-ghost use Rattle.e57_lib.specs.Layout.Values.{IsValidField, item_kind};
 ghost use Rattle.e57_lib.specs.Cloud.Cloud.{float_from};
 ghost use Rattle.e57_lib.specs.Nodes.Items.{leaves_of};
 ghost use Rattle.e57_lib.specs.Tree.Held.{AreCloudFields};
 ghost use Rattle.e57_lib.specs.Section.Opening.{LiesIn, most_records};
-ghost use Rattle.e57_lib.specs.Column.Reading.{AreWhole};
 ghost use Rattle.e57_lib.specs.Ahead.Counting.{IsWidth};
 ghost use Rattle.e57_example.specs.Ready.{IsReady, IsWholeField};
 
@@ -39,19 +37,20 @@ pub fn sums_of<S: Source>(
     }
     let cloud = clouds[0];
     let fields = tree.fields(0);
-    let f = field_named(fields, first)?;
-    let g = field_named(fields, second)?;
-    sum_fields(alloc, cloud, fields, tree.fixed(0), f, g, pages)
+    let first = integer_field(fields, first)?;
+    let second = integer_field(fields, second)?;
+    sum_fields(alloc, cloud, fields, tree.fixed(0), first, second, pages)
 }
 
-/// The number of the first field with this path, which has integers.
-fn field_named(fields: &[Field], path: &str) -> Result<usize, RunFault>
-    ensures { IfOk result (IsWholeField fields.now) }
+/// The first field with this path, which has integers, and its number.
+fn integer_field<'a>(fields: &'a [Field], path: &str) -> Result<(u16, &'a Field), RunFault>
+    requires { AreCloudFields fields.now }
+    ensures { IfOk result (λ found. IsWholeField (length fields.now) found.0 found.1.now) }
 {
     for (f, field) in fields.iter().enumerate() {
         if field.path.as_slice() == path.as_bytes() {
             return match field.kind {
-                FieldKind::Int { .. } | FieldKind::Scaled { .. } => Ok(f),
+                FieldKind::Int { .. } | FieldKind::Scaled { .. } => Ok((f as u16, field)),
                 _ => Err(RunFault::Ask(AskFault::NotInteger {
                     asked: 0,
                     have: f as u64,
@@ -65,21 +64,21 @@ fn field_named(fields: &[Field], path: &str) -> Result<usize, RunFault>
     }))
 }
 
-/// The sums of fields f and g of a cloud.
+/// The sums of two of the fields of a cloud. `fixed` is the first Float field of them, if there is one.
 fn sum_fields<S: Source>(
     alloc: Global,
     cloud: Cloud,
     fields: &[Field],
     fixed: Option<Fixed>,
-    f: usize,
-    g: usize,
+    first: (u16, &Field),
+    second: (u16, &Field),
     pages: &mut Pages<S>,
 ) -> Result<Sums, RunFault>
     requires few { cloud.count ≤ most_records }
     requires fields { AreCloudFields fields.now }
     requires fixed { fixed ≡ float_from 0 (leaves_of fields.now) }
-    requires is_f { IsWholeField fields.now f }
-    requires is_g { IsWholeField fields.now g }
+    requires first { IsWholeField (length fields.now) first.0 first.1.now }
+    requires second { IsWholeField (length fields.now) second.0 second.1.now }
 {
     let _size = pages.logical_len();
     if cloud.count == 0 {
@@ -90,8 +89,8 @@ fn sum_fields<S: Source>(
         Ok(section) => section,
         Err(fault) => return Err(RunFault::from(fault)),
     };
-    let mut first = open_column(alloc, &section, fixed, f as u16, &fields[f], pages)?;
-    let mut second = open_column(alloc, &section, fixed, g as u16, &fields[g], pages)?;
+    let mut first = open_column(alloc, &section, fixed, first, pages)?;
+    let mut second = open_column(alloc, &section, fixed, second, pages)?;
     sum_columns(&section, &mut first, &mut second, pages)
 }
 
@@ -100,18 +99,16 @@ fn open_column<S: Source>(
     alloc: Global,
     section: &Section,
     fixed: Option<Fixed>,
-    f: u16,
-    field: &Field,
+    field: (u16, &Field),
     pages: &mut Pages<S>,
 ) -> Result<Column, RunFault>
     requires lies { LiesIn section.now (pages.old.length / page_length * payload_length) }
-    requires is_field { f < section.now.fields }
-    requires valid { IsValidField field.now }
+    requires field { IsWholeField section.now.fields field.0 field.1.now }
     requires fixed { IfSome fixed (λ x. (x.field < section.now.fields) × IsWidth x) }
-    requires integers { AreWhole (item_kind field.now.kind) }
     ensures length { pages.new.length ≡ pages.old.length }
     ensures ready { IfOk result (IsReady section.now 0) }
 {
+    let (f, field) = field;
     let Ok(mut column) = Column::open(alloc, section, f, field, fixed) else {
         return Err(RunFault::Memory);
     };

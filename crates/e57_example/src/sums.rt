@@ -1,6 +1,6 @@
 //! The items of two columns, read block by block into lent buffers.
 
-ghost use Rattle.std.specs.Prelude.{◌≡◌, ◌+◌, ◌<◌, ◌≤◌, ◌*◌, ◌/◌, length, min, IfOk};
+ghost use Rattle.std.specs.Prelude.{◌≡◌, ◌+◌, ◌-◌, ◌<◌, ◌≤◌, ◌*◌, ◌/◌, length, min, IfOk};
 ghost use Rattle.e57_lib.specs.Base.Source.{page_length};
 ghost use Rattle.e57_lib.specs.Page.Place.{payload_length};
 ghost use Rattle.e57_lib.specs.Section.Opening.{LiesIn};
@@ -74,6 +74,7 @@ fn read_block<S: Source>(
     requires some { 0 < length buffer.old }
     ensures length { pages.new.length ≡ pages.old.length }
     ensures buffer { length buffer.new ≡ length buffer.old }
+    ensures count { IfOk result (λ n. n ≡ min (length buffer.old) (section.now.count - at)) }
     ensures some { IfOk result (λ n. (0 < n) × (n ≤ length buffer.old) × (at + n ≤ section.now.count)) }
     ensures ready { IfOk result (λ n. IsReady section.now (at + n) column.new) }
 {

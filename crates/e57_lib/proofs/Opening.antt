@@ -1,7 +1,7 @@
 -- What a tree gives is as `open_section` and `Column::open` want it.
-use Rattle.std.specs.Prelude.{◌≡◌, ℕ, zero, suc, ◌+◌, ◌<◌, ◌≤◌, List, [], ◌∷◌, length, Option, Some, None, IfSome, slice_get}
+use Rattle.std.specs.Prelude.{IfSome}
 use Rattle.std.specs.List.{AllByRecursion}
-use Rattle.std.proofs.Common.{refl, sym, subst, arith, inl, inr}
+use Rattle.std.proofs.Common.{◌≡◌, ℕ, zero, suc, ◌+◌, ◌<◌, ◌≤◌, List, [], ◌∷◌, length, slice_index_or, Option, None, refl, sym, subst, arith, inl, inr}
 use Rattle.e57_layout.specs.Values.{item_kind}
 use Rattle.e57_layout.specs.declared.field.Field.{Field}
 use Rattle.e57_layout.specs.declared.field.FieldKind.{FieldKind}
@@ -16,21 +16,18 @@ use Rattle.e57_nodes.specs.Typed.{typed_fault}
 use Rattle.e57_nodes.specs.Items.{StatedItem, stated_cloud, stated_blob, stated_items, leaves_of}
 use Rattle.e57_nodes.specs.Places.{places_in}
 use Rattle.e57_nodes.proofs.Laws.Sound.{IsSoundItem, sound_items}
-use Rattle.e57_tree.specs.declared.items.Cloud.{Cloud}
-use Rattle.e57_tree.specs.Held.{clouds_among, clouds_of}
+use Rattle.e57_tree.specs.Held.{clouds_among, cloud_in, no_cloud}
 
-few-among : (nodes : ℕ) (items : List StatedItem) (places : List ℕ) (k : ℕ) (cloud : Cloud) → AllByRecursion (IsSoundItem nodes) items → slice_get (clouds_among items places) k ≡ Some cloud → cloud.count ≤ most_records
-few-among nodes [] places k cloud sound is = absurd cc
-few-among nodes (x ∷ items) [] k cloud sound is = absurd cc
-few-among nodes (stated_cloud n count fields ∷ items) (place ∷ places) zero cloud sound is =
-    let same : record { node = n; place = place; count = count } ≡ cloud = cc in
-    subst (λ (c : Cloud). c.count ≤ most_records) same sound.0.few_records
-few-among nodes (stated_cloud n count fields ∷ items) (place ∷ places) (suc k) cloud sound is = few-among nodes items places k cloud sound.1 is
-few-among nodes (stated_blob n size ∷ items) (place ∷ places) k cloud sound is = few-among nodes items places k cloud sound.1 is
+few-among : (nodes : ℕ) (items : List StatedItem) (places : List ℕ) (k : ℕ) → AllByRecursion (IsSoundItem nodes) items → (slice_index_or (clouds_among items places) k no_cloud).count ≤ most_records
+few-among nodes [] places k sound = omega arith
+few-among nodes (x ∷ items) [] k sound = omega arith
+few-among nodes (stated_cloud n count fields ∷ items) (place ∷ places) zero sound = sound.0.few_records
+few-among nodes (stated_cloud n count fields ∷ items) (place ∷ places) (suc k) sound = few-among nodes items places k sound.1
+few-among nodes (stated_blob n size ∷ items) (place ∷ places) k sound = few-among nodes items places k sound.1
 
 -- a cloud of a tree has no more records than `open_section` takes
-pub few_records : (e : Element) (k : ℕ) (cloud : Cloud) → typed_fault (shape_of e) ≡ None → slice_get (clouds_of e) k ≡ Some cloud → cloud.count ≤ most_records
-few_records e k cloud typed is = few-among (node_count (shape_of e)) (stated_items (shape_of e)) (places_in e) k cloud (sound_items e typed) is
+pub few_records : (e : Element) (k : ℕ) → typed_fault (shape_of e) ≡ None → (cloud_in e k).count ≤ most_records
+few_records e k typed = few-among (node_count (shape_of e)) (stated_items (shape_of e)) (places_in e) k (sound_items e typed)
 
 fits-from : (f count : ℕ) (fields : List Field) → f + length fields ≤ count → IfSome (float_from f (leaves_of fields)) (λ x. (x.field < count) × IsWidth x)
 unfolding float_from
