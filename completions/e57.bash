@@ -8,7 +8,7 @@ _e57_files() {
 # The options of a command, each with its `=`.
 _e57_options() {
     case $1 in
-        extract) echo --fields= --from= --count= ;;
+        extract) echo --fields= --from= --count= --decimal= ;;
     esac
 }
 

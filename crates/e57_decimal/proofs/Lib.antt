@@ -1,4 +1,5 @@
 mod Again
+mod Decided
 mod Denominators
 mod Forms
 mod Fronts

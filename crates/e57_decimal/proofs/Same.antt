@@ -36,16 +36,16 @@ same_text x y h =
 
 -- ---- one decimal
 
-same_number : (z w : ℤ) → unsigned_abs z ≡ unsigned_abs w → sign_text z ≡ sign_text w → z ≡ w
+pub same_number : (z w : ℤ) → unsigned_abs z ≡ unsigned_abs w → sign_text z ≡ sign_text w → z ≡ w
 same_number (pos m) (pos n) e s = ap pos e
 same_number (pos m) (negsuc n) e s = absurd (cc)
 same_number (negsuc m) (pos n) e s = absurd (cc)
 same_number (negsuc m) (negsuc n) e s = let f : m ≡ n = omega arith in ap negsuc f
 
-same_shift : (s t : ℤ) → neg_ℤ (pos 60) ≤ℤ s → neg_ℤ (pos 60) ≤ℤ t → unsigned_abs (s +ℤ pos 60) ≡ unsigned_abs (t +ℤ pos 60) → s ≡ t
+pub same_shift : (s t : ℤ) → neg_ℤ (pos 60) ≤ℤ s → neg_ℤ (pos 60) ≤ℤ t → unsigned_abs (s +ℤ pos 60) ≡ unsigned_abs (t +ℤ pos 60) → s ≡ t
 same_shift s t low less e = omega (arith, ints)
 
-by_fields : (a b : Decimal) → a.whole ≡ b.whole → a.shift ≡ b.shift → a ≡ b
+pub by_fields : (a b : Decimal) → a.whole ≡ b.whole → a.shift ≡ b.shift → a ≡ b
 by_fields a b w s = ap (λ z. decimal z a.shift) w ∙ ap (λ z. decimal b.whole z) s
 
 from_zero : (a b : Decimal) → IsDecimal a → IsDecimal b → IsSame (fraction_of a) (fraction_of b) → a.whole ≡ pos 0 → a ≡ b

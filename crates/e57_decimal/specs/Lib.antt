@@ -1,3 +1,4 @@
+pub mod Decided
 pub mod Deciding
 pub mod Fractions
 pub mod Reading

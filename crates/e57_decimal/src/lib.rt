@@ -15,3 +15,6 @@ pub use laws::{one_decimal, one_sum, one_text, text_is_read};
 pub use reading::read_decimal;
 pub use scaling::Linear;
 pub use values::Decimal;
+
+#[cfg(test)]
+mod tests;

@@ -3,6 +3,7 @@
 ghost use Rattle.std.specs.Prelude.{◌≡◌, ◌%◌, ◌≤◌, MatchOption};
 ghost use Rattle.e57_decimal.specs.Fractions.{limit};
 ghost use Rattle.e57_decimal.specs.Reading.{IsReadAs};
+ghost use Rattle.e57_decimal.specs.Decided.{decimal_in};
 ghost use Rattle.e57_decimal.specs.Deciding.{Decides, IsFar, IsShift, signed_fraction};
 
 use crate::gathering::number_of_digits;
@@ -51,6 +52,14 @@ fn decimal_of(negative: bool, magnitude: u128, up: u128, down: u128) -> Option<D
 ///
 /// None if the text isn't such a text, or no decimal has its value.
 pub fn read_decimal(text: &[u8]) -> Option<Decimal>
+    ensures read { MatchOption result ((d : Decimal) → IsReadAs text.now d → ⊥) (λ d. IsReadAs text.now d) }
+    ensures decimal { result ≡ decimal_in text.now }
+{
+    decimal_read(text)
+}
+
+/// The decimal whose value a decimal text has, if there is one.
+fn decimal_read(text: &[u8]) -> Option<Decimal>
     ensures { MatchOption result ((d : Decimal) → IsReadAs text.now d → ⊥) (λ d. IsReadAs text.now d) }
 {
     let parts = split_parts(text)?;

@@ -4,7 +4,7 @@ use Rattle.std.specs.List.{AllByRecursion}
 use Rattle.std.proofs.Common.{refl, sym, ap, ◌∙◌, arith, add-zero, append_assoc}
 use Rattle.std.proofs.lemmas.List.{append-nil, map-append, take_more}
 use Rattle.std.proofs.lemmas.Bool.Decides.{nat_tests}
-use Rattle.e57_layout.specs.Values.{ItemKind}
+use Rattle.e57_layout.specs.Values.{ItemKind, Value}
 use Rattle.e57_blocks.specs.declared.block.Item.{Item}
 use Rattle.e57_blocks.specs.declared.block.Item.TheVariants as an_item
 use Rattle.e57_blocks.specs.Block.{Block, has_record, item_value, IsOfKind}
@@ -48,10 +48,10 @@ all_records i n k blocks below all = all_map (HasRecords i n) (HasRecords (i + k
 
 -- ---- rows
 
-pub rows_last : (blocks : List Block) (i k : ℕ) → held_rows blocks i (k + 1) ≡ held_rows blocks i k ++ held_row blocks (i + k)
+pub rows_last : (show : ℕ → Value → Value) (blocks : List Block) (i k : ℕ) → held_rows show blocks i (k + 1) ≡ held_rows show blocks i k ++ held_row show blocks (i + k)
 unfolding held_rows
-rows_last blocks i zero = rw add-zero (append-nil (held_row blocks i))
-rows_last blocks i (suc k) =
+rows_last show blocks i zero = rw add-zero (append-nil (held_row show blocks i))
+rows_last show blocks i (suc k) =
     let place : i + suc k ≡ i + 1 + k = omega arith in
     let size : suc k + 1 ≡ suc (k + 1) = omega arith in
-    rw (size, place) (ap (λ (t : List ℕ). held_row blocks i ++ t) (rows_last blocks (i + 1) k) ∙ sym (append_assoc (held_row blocks i) (held_rows blocks (i + 1) k) (held_row blocks (i + 1 + k))))
+    rw (size, place) (ap (λ (t : List ℕ). held_row show blocks i ++ t) (rows_last show blocks (i + 1) k) ∙ sym (append_assoc (held_row show blocks i) (held_rows show blocks (i + 1) k) (held_row show blocks (i + 1 + k))))

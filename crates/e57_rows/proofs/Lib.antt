@@ -1,6 +1,7 @@
 pub mod Writing
 pub mod Digits
 pub mod Held
+pub mod Lines
 pub mod Cells
 pub mod Filling
 pub mod Records

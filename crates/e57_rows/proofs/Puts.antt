@@ -15,15 +15,16 @@ use Rattle.e57_base.specs.declared.fault.Fault.{Fault}
 use Rattle.e57_base.specs.declared.fault.OpenFault.{OpenFault}
 use Rattle.e57_base.specs.declared.fault.OpenFault.TheVariants as lost
 use Rattle.e57_base.specs.declared.fault.RunFault.TheVariants.{Out, Memory}
+use Rattle.e57_layout.specs.Values.{Value}
 use Rattle.e57_cloud.specs.Cloud.{Leaf}
 use Rattle.e57_stream.specs.Asking.{AsksMet}
 use Rattle.e57_stream.proofs.AskingLaws.{asks_met_none, asks_met_on, asks_met_map}
 use Rattle.e57_blocks.specs.Block.{Block, Holds}
-use Rattle.e57_rows.specs.Rows.{section_row, rows_text, rows_fault}
+use Rattle.e57_rows.specs.Rows.{section_row, shown_row, rows_text, rows_fault}
 use Rattle.e57_rows.specs.Putting.{Slice, slice_text, slice_fault, OnSlice, PutsFront, PutsRows, IsRowsCause, FailsRows}
 use Rattle.e57_rows.specs.Blocks.{AreBlocks, IsReady, HasRecords, AreOfFile, blocks_slice, held_rows, FillsBlocks, IsBlocksCause, FillsNoBlocks}
 use Rattle.e57_rows.proofs.Held.{all_map}
-use Rattle.e57_rows.proofs.Records.{AreRows, rows_none, rows_both, rows_on, rows_sound, rows_stop}
+use Rattle.e57_rows.proofs.Records.{AreRows, rows_none, rows_both, rows_on, rows_sound, rows_stop, row_lost}
 
 -- ---- what a sink holds
 
@@ -57,8 +58,8 @@ abbrev pub part : Slice → ℕ → ℕ → Slice
 part a i n = record { section = a.section; fixed = a.fixed; asked = a.asked; from = i; count = n }
 
 -- the rows of its records
-abbrev pub rows_of : Slice → List ℕ → ℕ → ℕ → List ℕ → Type 0
-rows_of a file i n text = AreRows (section_row file a.section a.fixed a.asked) i n text
+abbrev pub rows_of : (ℕ → Value → Value) → Slice → List ℕ → ℕ → ℕ → List ℕ → Type 0
+rows_of show a file i n text = AreRows (shown_row show file a.section a.fixed a.asked) i n text
 
 part_asks : (a : Slice) (i n : ℕ) (old new : SourceView) → a.from ≤ i → i + n ≤ a.from + a.count → AsksMet (OnSlice (part a i n)) old new → AsksMet (OnSlice a) old new
 part_asks a i n old new low high asks =
@@ -72,82 +73,82 @@ part_asks a i n old new low high asks =
 -- ---- the first rows of a slice
 
 -- The rows of its first n records were put: none of these has a fault.
-pub record PutsTo (a : Slice) (n : ℕ) (old new : SourceView) (out out' : SinkView) : Type 0 where
+pub record PutsTo (show : ℕ → Value → Value) (a : Slice) (n : ℕ) (old new : SourceView) (out out' : SinkView) : Type 0 where
   pub met : AsksMet (OnSlice a) old new
   pub text : List ℕ
-  pub rows : IfSome old.held (λ file. rows_of a file a.from n text)
+  pub rows : IfSome old.held (λ file. rows_of show a file a.from n text)
   pub wrote : Grows out.written text out'.written
   pub counts : out.faults ≤ out'.faults
 
-pub puts_none : (a : Slice) (source : SourceView) (out : SinkView) → PutsTo a 0 source source out out
-puts_none a source out = record {
+pub puts_none : (show : ℕ → Value → Value) (a : Slice) (source : SourceView) (out : SinkView) → PutsTo show a 0 source source out out
+puts_none show a source out = record {
   met = asks_met_none (OnSlice a) source;
   text = [];
-  rows = told_all (λ file. rows_of a file a.from 0 []) source.held (λ file. rows_none (section_row file a.section a.fixed a.asked) a.from);
+  rows = told_all (λ file. rows_of show a file a.from 0 []) source.held (λ file. rows_none (shown_row show file a.section a.fixed a.asked) a.from);
   wrote = grows_none out.written;
   counts = omega arith;
 }
 
 -- the rows that the blocks hold, behind the first ones
-run_rows : (a : Slice) (n want m i : ℕ) (old mid new : SourceView) (blocks : List Block) (first text : List ℕ) → i ≡ a.from + n → mid.held ≡ old.held → IfSome old.held (λ file. rows_of a file a.from n first) → FillsBlocks (part a i want) mid m new blocks → text ≡ held_rows blocks i m
-    → IfSome old.held (λ file. rows_of a file a.from (n + m) (first ++ text))
-run_rows a n want m i old mid new blocks first text place same rows fills is =
-    told_both (λ file. rows_of a file a.from n first) (λ file. AllByRecursion (Holds file) blocks) (λ file. rows_of a file a.from (n + m) (first ++ text)) old.held
+run_rows : (show : ℕ → Value → Value) (a : Slice) (n want m i : ℕ) (old mid new : SourceView) (blocks : List Block) (first text : List ℕ) → i ≡ a.from + n → mid.held ≡ old.held → IfSome old.held (λ file. rows_of show a file a.from n first) → FillsBlocks (part a i want) mid m new blocks → text ≡ held_rows show blocks i m
+    → IfSome old.held (λ file. rows_of show a file a.from (n + m) (first ++ text))
+run_rows show a n want m i old mid new blocks first text place same rows fills is =
+    told_both (λ file. rows_of show a file a.from n first) (λ file. AllByRecursion (Holds file) blocks) (λ file. rows_of show a file a.from (n + m) (first ++ text)) old.held
     (λ file before holds.
-    let next = rows_sound file a.section a.fixed a.asked blocks i m fills.are holds fills.have in
-    let here : rows_of a file (a.from + n) m text = subst (λ (t : List ℕ). rows_of a file (a.from + n) m t) (sym is) (subst (λ (k : ℕ). rows_of a file k m (held_rows blocks i m)) place next) in
-    rows_both (section_row file a.section a.fixed a.asked) a.from n m first text before here) rows
+    let next = rows_sound show file a.section a.fixed a.asked blocks i m fills.are holds fills.have in
+    let here : rows_of show a file (a.from + n) m text = subst (λ (t : List ℕ). rows_of show a file (a.from + n) m t) (sym is) (subst (λ (k : ℕ). rows_of show a file k m (held_rows show blocks i m)) place next) in
+    rows_both (shown_row show file a.section a.fixed a.asked) a.from n m first text before here) rows
     (told_here (λ file. AllByRecursion (Holds file) blocks) mid.held old.held (sym same) fills.holds)
 
 -- one run more
-pub puts_on : (a : Slice) (n want m i : ℕ) (old mid new : SourceView) (out out' out'' : SinkView) (blocks : List Block) (text : List ℕ) → i ≡ a.from + n → n + want ≤ a.count → PutsTo a n old mid out out' → FillsBlocks (part a i want) mid m new blocks → text ≡ held_rows blocks i m
-    → Grows out'.written text out''.written → out'.faults ≤ out''.faults → PutsTo a (n + m) old new out out''
-puts_on a n want m i old mid new out out' out'' blocks text place within first fills is wrote counts =
+pub puts_on : (show : ℕ → Value → Value) (a : Slice) (n want m i : ℕ) (old mid new : SourceView) (out out' out'' : SinkView) (blocks : List Block) (text : List ℕ) → i ≡ a.from + n → n + want ≤ a.count → PutsTo show a n old mid out out' → FillsBlocks (part a i want) mid m new blocks → text ≡ held_rows show blocks i m
+    → Grows out'.written text out''.written → out'.faults ≤ out''.faults → PutsTo show a (n + m) old new out out''
+puts_on show a n want m i old mid new out out' out'' blocks text place within first fills is wrote counts =
     let before = first.counts in
     record {
       met = asks_met_on (OnSlice a) old mid new first.met (part_asks a i want mid new (omega (arith, place)) (omega (arith, place, within)) fills.met);
       text = first.text ++ text;
-      rows = run_rows a n want m i old mid new blocks first.text text place first.met.asks.same.held first.rows fills is;
+      rows = run_rows show a n want m i old mid new blocks first.text text place first.met.asks.same.held first.rows fills is;
       wrote = grows_on out.written out'.written out''.written first.text text first.wrote wrote;
       counts = omega (arith, before, counts);
     }
 
-pub puts_all : (a : Slice) (n : ℕ) (old new : SourceView) (out out' : SinkView) → n ≡ a.count → PutsTo a n old new out out' → PutsRows a old new out out'
-puts_all a n old new out out' all first =
-    let rows = subst (λ (k : ℕ). IfSome old.held (λ file. rows_of a file a.from k first.text)) all first.rows in
+pub puts_all : (show : ℕ → Value → Value) (a : Slice) (n : ℕ) (old new : SourceView) (out out' : SinkView) → n ≡ a.count → PutsTo show a n old new out out' → PutsRows show a old new out out'
+puts_all show a n old new out out' all first =
+    let rows = subst (λ (k : ℕ). IfSome old.held (λ file. rows_of show a file a.from k first.text)) all first.rows in
     record {
       met = first.met;
-      sound = told_map (λ file. rows_of a file a.from a.count first.text) (λ file. slice_fault a file ≡ None) old.held (λ file are. are.sound) rows;
-      wrote = (first.text, told_map (λ file. rows_of a file a.from a.count first.text) (λ file. first.text ≡ slice_text a file) old.held (λ file are. are.text_is) rows, first.wrote);
+      sound = told_map (λ file. rows_of show a file a.from a.count first.text) (λ file. slice_fault show a file ≡ None) old.held (λ file are. are.sound) rows;
+      wrote = (first.text, told_map (λ file. rows_of show a file a.from a.count first.text) (λ file. first.text ≡ slice_text show a file) old.held (λ file are. are.text_is) rows, first.wrote);
     }
 
 -- ---- not all of them
 
 -- a front of the first rows is one of all
-front_of : (a : Slice) (n : ℕ) (held : Option (List ℕ)) (text : List ℕ) (out out' : SinkView) → n ≤ a.count → IfSome held (λ file. rows_of a file a.from n text) → GrowsByFront out.written text out'.written → PutsFront a held out out'
-front_of a n None text out out' within rows front = (text, tt, front)
-front_of a n (Some file) text out out' within rows front =
-    let row = section_row file a.section a.fixed a.asked in
+front_of : (show : ℕ → Value → Value) (a : Slice) (n : ℕ) (held : Option (List ℕ)) (text : List ℕ) (out out' : SinkView) → n ≤ a.count → IfSome held (λ file. rows_of show a file a.from n text) → GrowsByFront out.written text out'.written → PutsFront show a held out out'
+front_of show a n None text out out' within rows front = (text, tt, front)
+front_of show a n (Some file) text out out' within rows front =
+    let row = shown_row show file a.section a.fixed a.asked in
     let on = rows_on row a.from n (a.count - n) text rows in
     let all : n + (a.count - n) ≡ a.count = omega (arith, within) in
-    let whole : slice_text a file ≡ text ++ rows_text row (a.from + n) (a.count - n) = subst (λ (k : ℕ). rows_text row a.from k ≡ text ++ rows_text row (a.from + n) (a.count - n)) all on.texts in (
-      slice_text a file,
+    let whole : slice_text show a file ≡ text ++ rows_text row (a.from + n) (a.count - n) = subst (λ (k : ℕ). rows_text row a.from k ≡ text ++ rows_text row (a.from + n) (a.count - n)) all on.texts in (
+      slice_text show a file,
       refl,
       subst (λ (t : List ℕ). GrowsByFront out.written t out'.written) (sym whole) (front_wider out.written out'.written text (rows_text row (a.from + n) (a.count - n)) front),
     )
 
-puts_front : (a : Slice) (n : ℕ) (old mid : SourceView) (out out' : SinkView) → n ≤ a.count → PutsTo a n old mid out out' → PutsFront a old.held out out'
-puts_front a n old mid out out' within first = front_of a n old.held first.text out out' within first.rows (grows_front out.written out'.written first.text first.wrote)
+puts_front : (show : ℕ → Value → Value) (a : Slice) (n : ℕ) (old mid : SourceView) (out out' : SinkView) → n ≤ a.count → PutsTo show a n old mid out out' → PutsFront show a old.held out out'
+puts_front show a n old mid out out' within first = front_of show a n old.held first.text out out' within first.rows (grows_front out.written out'.written first.text first.wrote)
 
 -- no block was opened
-pub fails_first : (a : Slice) (source : SourceView) (out : SinkView) → FailsRows a source source out out Memory
-fails_first a source out =
-    let first = puts_none a source out in
-    record { met = first.met; cause = puts_front a 0 source source out out (omega arith) first }
+pub fails_first : (show : ℕ → Value → Value) (a : Slice) (source : SourceView) (out : SinkView) → FailsRows show a source source out out Memory
+fails_first show a source out =
+    let first = puts_none show a source out in
+    record { met = first.met; cause = puts_front show a 0 source source out out (omega arith) first }
 
 -- the next record isn't held
-pub fails_fill : (a : Slice) (n want i : ℕ) (old mid new : SourceView) (out out' : SinkView) (fault : OpenFault) → 0 < want → i ≡ a.from + n → n + want ≤ a.count → PutsTo a n old mid out out' → FillsNoBlocks (part a i want) mid fault new → FailsRows a old new out out' (open_as_run fault)
-fails_fill a n want i old mid new out out' fault some place within first fails =
+pub fails_fill : (show : ℕ → Value → Value) (a : Slice) (n want i : ℕ) (old mid new : SourceView) (out out' : SinkView) (fault : OpenFault) → 0 < want → i ≡ a.from + n → n + want ≤ a.count → PutsTo show a n old mid out out' → FillsNoBlocks (part a i want) mid fault new → FailsRows show a old new out out' (open_as_run fault)
+fails_fill show a n want i old mid new out out' fault some place within first fails =
     record {
       met = asks_met_on (OnSlice a) old mid new first.met (part_asks a i want mid new (omega (arith, place)) (omega (arith, place, within)) fails.met);
       cause = by_cause fault fails.cause;
@@ -156,42 +157,44 @@ fails_fill a n want i old mid new out out' fault some place within first fails =
     left : n + suc (a.count - n - 1) ≡ a.count
     left = omega (arith, some, within)
 
-    stops : (found : Fault) → IfSome mid.held (λ file. section_row file a.section a.fixed a.asked i ≡ Err found) → IfSome old.held (λ file. (slice_fault a file ≡ Some found) × (first.text ≡ slice_text a file))
+    stops : (found : Fault) → IfSome mid.held (λ file. section_row file a.section a.fixed a.asked i ≡ Err found) → IfSome old.held (λ file. (slice_fault show a file ≡ Some found) × (first.text ≡ slice_text show a file))
     stops found wrong =
-        told_both (λ file. rows_of a file a.from n first.text) (λ file. section_row file a.section a.fixed a.asked i ≡ Err found) (λ file. (slice_fault a file ≡ Some found) × (first.text ≡ slice_text a file)) old.held
+        told_both (λ file. rows_of show a file a.from n first.text) (λ file. shown_row show file a.section a.fixed a.asked i ≡ Err found) (λ file. (slice_fault show a file ≡ Some found) × (first.text ≡ slice_text show a file)) old.held
         (λ file rows is.
-        let row = section_row file a.section a.fixed a.asked in
+        let row = shown_row show file a.section a.fixed a.asked in
         let stop = rows_stop row a.from n (a.count - n - 1) first.text found rows (subst (λ (k : ℕ). row k ≡ Err found) place is) in
         subst (λ (k : ℕ). (rows_fault row a.from k ≡ Some found) × (first.text ≡ rows_text row a.from k)) left stop) first.rows
-        (told_here (λ file. section_row file a.section a.fixed a.asked i ≡ Err found) mid.held old.held (sym first.met.asks.same.held) wrong)
+        (told_here (λ file. shown_row show file a.section a.fixed a.asked i ≡ Err found) mid.held old.held (sym first.met.asks.same.held)
+        (told_map (λ file. section_row file a.section a.fixed a.asked i ≡ Err found) (λ file. shown_row show file a.section a.fixed a.asked i ≡ Err found) mid.held
+        (λ file is. row_lost show file a.section a.fixed a.asked i found is) wrong))
 
-    by_cause : (fault : OpenFault) → IsBlocksCause (part a i want) mid fault new → IsRowsCause a old new out out' (open_as_run fault)
+    by_cause : (fault : OpenFault) → IsBlocksCause (part a i want) mid fault new → IsRowsCause show a old new out out' (open_as_run fault)
     by_cause (lost.Refused found) (kind, wrong) =
         let both = stops found wrong in (
           kind,
-          told_map (λ file. (slice_fault a file ≡ Some found) × (first.text ≡ slice_text a file)) (λ file. slice_fault a file ≡ Some found) old.held (λ file x. x.0) both,
-          (first.text, told_map (λ file. (slice_fault a file ≡ Some found) × (first.text ≡ slice_text a file)) (λ file. first.text ≡ slice_text a file) old.held (λ file x. x.1) both, first.wrote),
+          told_map (λ file. (slice_fault show a file ≡ Some found) × (first.text ≡ slice_text show a file)) (λ file. slice_fault show a file ≡ Some found) old.held (λ file x. x.0) both,
+          (first.text, told_map (λ file. (slice_fault show a file ≡ Some found) × (first.text ≡ slice_text show a file)) (λ file. first.text ≡ slice_text show a file) old.held (λ file x. x.1) both, first.wrote),
         )
-    by_cause lost.Source rose = (rose_before old.faults mid.faults new.faults first.met.asks.faults rose, puts_front a n old mid out out' (omega (arith, within)) first)
-    by_cause lost.Memory unit = puts_front a n old mid out out' (omega (arith, within)) first
+    by_cause lost.Source rose = (rose_before old.faults mid.faults new.faults first.met.asks.faults rose, puts_front show a n old mid out out' (omega (arith, within)) first)
+    by_cause lost.Memory unit = puts_front show a n old mid out out' (omega (arith, within)) first
 
 -- there is no memory for the text of the next run
-pub fails_text : (a : Slice) (n want m i : ℕ) (old mid new : SourceView) (out out' : SinkView) (blocks : List Block) → i ≡ a.from + n → n + want ≤ a.count → PutsTo a n old mid out out' → FillsBlocks (part a i want) mid m new blocks → FailsRows a old new out out' Memory
-fails_text a n want m i old mid new out out' blocks place within first fills = record {
+pub fails_text : (show : ℕ → Value → Value) (a : Slice) (n want m i : ℕ) (old mid new : SourceView) (out out' : SinkView) (blocks : List Block) → i ≡ a.from + n → n + want ≤ a.count → PutsTo show a n old mid out out' → FillsBlocks (part a i want) mid m new blocks → FailsRows show a old new out out' Memory
+fails_text show a n want m i old mid new out out' blocks place within first fills = record {
   met = asks_met_on (OnSlice a) old mid new first.met (part_asks a i want mid new (omega (arith, place)) (omega (arith, place, within)) fills.met);
-  cause = puts_front a n old mid out out' (omega (arith, within)) first;
+  cause = puts_front show a n old mid out out' (omega (arith, within)) first;
 }
 
 -- the next run wasn't put as a whole
-pub fails_put : (a : Slice) (n want m i : ℕ) (old mid new : SourceView) (out out' out'' : SinkView) (blocks : List Block) (text : List ℕ) → i ≡ a.from + n → n + want ≤ a.count → PutsTo a n old mid out out' → FillsBlocks (part a i want) mid m new blocks → text ≡ held_rows blocks i m
-    → GrowsByFront out'.written text out''.written → Rose out'.faults out''.faults → FailsRows a old new out out'' Out
-fails_put a n want m i old mid new out out' out'' blocks text place within first fills is front rose =
+pub fails_put : (show : ℕ → Value → Value) (a : Slice) (n want m i : ℕ) (old mid new : SourceView) (out out' out'' : SinkView) (blocks : List Block) (text : List ℕ) → i ≡ a.from + n → n + want ≤ a.count → PutsTo show a n old mid out out' → FillsBlocks (part a i want) mid m new blocks → text ≡ held_rows show blocks i m
+    → GrowsByFront out'.written text out''.written → Rose out'.faults out''.faults → FailsRows show a old new out out'' Out
+fails_put show a n want m i old mid new out out' out'' blocks text place within first fills is front rose =
     let few = fills.few in
     record {
       met = asks_met_on (OnSlice a) old mid new first.met (part_asks a i want mid new (omega (arith, place)) (omega (arith, place, within)) fills.met);
       cause = (
         rose_before out.faults out'.faults out''.faults first.counts rose,
-        front_of a (n + m) old.held (first.text ++ text) out out'' (omega (arith, few, within)) (run_rows a n want m i old mid new blocks first.text text place first.met.asks.same.held first.rows fills is)
+        front_of show a (n + m) old.held (first.text ++ text) out out'' (omega (arith, few, within)) (run_rows show a n want m i old mid new blocks first.text text place first.met.asks.same.held first.rows fills is)
             (front_on out.written out'.written out''.written first.text text first.wrote front),
       );
     }
@@ -217,24 +220,24 @@ fills_no_part a blocks i want fault old new are fills =
 
 -- ---- a run, as the loop has it: the records before record i were put
 
-pub run_on : (a : Slice) (i want m : ℕ) (old mid new : SourceView) (out out' out'' : SinkView) (blocks after : List Block) (text : List ℕ) → a.from ≤ i → i + want ≤ a.from + a.count → AreBlocks a.section a.fixed a.asked blocks → PutsTo a (i - a.from) old mid out out'
-    → FillsBlocks (blocks_slice a.section a.fixed blocks i want) mid m new after → text ≡ held_rows after i m → Grows out'.written text out''.written → out'.faults ≤ out''.faults → PutsTo a (i + m - a.from) old new out out''
-run_on a i want m old mid new out out' out'' blocks after text low high are first fills is wrote counts =
+pub run_on : (show : ℕ → Value → Value) (a : Slice) (i want m : ℕ) (old mid new : SourceView) (out out' out'' : SinkView) (blocks after : List Block) (text : List ℕ) → a.from ≤ i → i + want ≤ a.from + a.count → AreBlocks a.section a.fixed a.asked blocks → PutsTo show a (i - a.from) old mid out out'
+    → FillsBlocks (blocks_slice a.section a.fixed blocks i want) mid m new after → text ≡ held_rows show after i m → Grows out'.written text out''.written → out'.faults ≤ out''.faults → PutsTo show a (i + m - a.from) old new out out''
+run_on show a i want m old mid new out out' out'' blocks after text low high are first fills is wrote counts =
     let n : i - a.from + m ≡ i + m - a.from = omega (arith, low) in
-    subst (λ (k : ℕ). PutsTo a k old new out out'') n
-    (puts_on a (i - a.from) want m i old mid new out out' out'' after text (omega (arith, low)) (omega (arith, low, high)) first (fills_part a blocks after i want m mid new are fills) is wrote counts)
+    subst (λ (k : ℕ). PutsTo show a k old new out out'') n
+    (puts_on show a (i - a.from) want m i old mid new out out' out'' after text (omega (arith, low)) (omega (arith, low, high)) first (fills_part a blocks after i want m mid new are fills) is wrote counts)
 
-pub run_not : (a : Slice) (i want : ℕ) (old mid new : SourceView) (out out' : SinkView) (blocks : List Block) (fault : OpenFault) → 0 < want → a.from ≤ i → i + want ≤ a.from + a.count → AreBlocks a.section a.fixed a.asked blocks → PutsTo a (i - a.from) old mid out out'
-    → FillsNoBlocks (blocks_slice a.section a.fixed blocks i want) mid fault new → FailsRows a old new out out' (open_as_run fault)
-run_not a i want old mid new out out' blocks fault some low high are first fails =
-    fails_fill a (i - a.from) want i old mid new out out' fault some (omega (arith, low)) (omega (arith, low, high)) first (fills_no_part a blocks i want fault mid new are fails)
+pub run_not : (show : ℕ → Value → Value) (a : Slice) (i want : ℕ) (old mid new : SourceView) (out out' : SinkView) (blocks : List Block) (fault : OpenFault) → 0 < want → a.from ≤ i → i + want ≤ a.from + a.count → AreBlocks a.section a.fixed a.asked blocks → PutsTo show a (i - a.from) old mid out out'
+    → FillsNoBlocks (blocks_slice a.section a.fixed blocks i want) mid fault new → FailsRows show a old new out out' (open_as_run fault)
+run_not show a i want old mid new out out' blocks fault some low high are first fails =
+    fails_fill show a (i - a.from) want i old mid new out out' fault some (omega (arith, low)) (omega (arith, low, high)) first (fills_no_part a blocks i want fault mid new are fails)
 
-pub run_unwritten : (a : Slice) (i want m : ℕ) (old mid new : SourceView) (out out' : SinkView) (blocks after : List Block) → a.from ≤ i → i + want ≤ a.from + a.count → AreBlocks a.section a.fixed a.asked blocks → PutsTo a (i - a.from) old mid out out'
-    → FillsBlocks (blocks_slice a.section a.fixed blocks i want) mid m new after → FailsRows a old new out out' Memory
-run_unwritten a i want m old mid new out out' blocks after low high are first fills =
-    fails_text a (i - a.from) want m i old mid new out out' after (omega (arith, low)) (omega (arith, low, high)) first (fills_part a blocks after i want m mid new are fills)
+pub run_unwritten : (show : ℕ → Value → Value) (a : Slice) (i want m : ℕ) (old mid new : SourceView) (out out' : SinkView) (blocks after : List Block) → a.from ≤ i → i + want ≤ a.from + a.count → AreBlocks a.section a.fixed a.asked blocks → PutsTo show a (i - a.from) old mid out out'
+    → FillsBlocks (blocks_slice a.section a.fixed blocks i want) mid m new after → FailsRows show a old new out out' Memory
+run_unwritten show a i want m old mid new out out' blocks after low high are first fills =
+    fails_text show a (i - a.from) want m i old mid new out out' after (omega (arith, low)) (omega (arith, low, high)) first (fills_part a blocks after i want m mid new are fills)
 
-pub run_unput : (a : Slice) (i want m : ℕ) (old mid new : SourceView) (out out' out'' : SinkView) (blocks after : List Block) (text : List ℕ) → a.from ≤ i → i + want ≤ a.from + a.count → AreBlocks a.section a.fixed a.asked blocks → PutsTo a (i - a.from) old mid out out'
-    → FillsBlocks (blocks_slice a.section a.fixed blocks i want) mid m new after → text ≡ held_rows after i m → GrowsByFront out'.written text out''.written → Rose out'.faults out''.faults → FailsRows a old new out out'' Out
-run_unput a i want m old mid new out out' out'' blocks after text low high are first fills is front rose =
-    fails_put a (i - a.from) want m i old mid new out out' out'' after text (omega (arith, low)) (omega (arith, low, high)) first (fills_part a blocks after i want m mid new are fills) is front rose
+pub run_unput : (show : ℕ → Value → Value) (a : Slice) (i want m : ℕ) (old mid new : SourceView) (out out' out'' : SinkView) (blocks after : List Block) (text : List ℕ) → a.from ≤ i → i + want ≤ a.from + a.count → AreBlocks a.section a.fixed a.asked blocks → PutsTo show a (i - a.from) old mid out out'
+    → FillsBlocks (blocks_slice a.section a.fixed blocks i want) mid m new after → text ≡ held_rows show after i m → GrowsByFront out'.written text out''.written → Rose out'.faults out''.faults → FailsRows show a old new out out'' Out
+run_unput show a i want m old mid new out out' out'' blocks after text low high are first fills is front rose =
+    fails_put show a (i - a.from) want m i old mid new out out' out'' after text (omega (arith, low)) (omega (arith, low, high)) first (fills_part a blocks after i want m mid new are fills) is front rose

@@ -12,7 +12,8 @@ use Rattle.e57_cloud.specs.PathItem.{and_then, item_of}
 use Rattle.e57_column.specs.Column.{leaf_of, column_item}
 use Rattle.e57_blocks.specs.Block.{Block, held_item, Holds}
 use Rattle.e57_rows.specs.Cells.{cell, csv_row}
-use Rattle.e57_rows.specs.Rows.{cells_of, section_row, rows_text, rows_fault, text_before, fault_before}
+use Rattle.e57_rows.specs.Shown.{as_it_is}
+use Rattle.e57_rows.specs.Rows.{cells_of, shown, shown_row, section_row, rows_text, rows_fault, text_before, fault_before}
 use Rattle.e57_rows.specs.Blocks.{field_of, IsOf, AreBlocks, HasRecords, cell_at, held_row, held_rows}
 use Rattle.e57_rows.proofs.Held.{all_map}
 
@@ -38,6 +39,10 @@ item_held file s fixed b i is holds has =
 abbrev pub looks : List ℕ → Section → Option Fixed → ℕ → ℕ → Leaf → Result Value Fault
 looks file s fixed i f leaf = item_of file s fixed f leaf i
 
+-- what is found of a field, as it is shown
+abbrev pub shown_looks : (ℕ → Value → Value) → List ℕ → Section → Option Fixed → ℕ → ℕ → Leaf → Result Value Fault
+shown_looks show file s fixed i f leaf = shown show f (item_of file s fixed f leaf i)
+
 cells_first : (item : ℕ → Leaf → Result Value Fault) (f : ℕ) (leaf : Leaf) (asked : List (ℕ × Leaf)) (v : Value) → item f leaf ≡ Ok v → cells_of item ((f, leaf) ∷ asked) ≡ and_then (cells_of item asked) (λ cells. Ok (cell leaf.kind v ∷ cells))
 unfolding cells_of
 cells_first item f leaf asked v is = ap (λ (r : Result Value Fault). and_then r (λ v. and_then (cells_of item asked) (λ cells. Ok (cell leaf.kind v ∷ cells)))) is
@@ -46,13 +51,13 @@ cells_fault : (item : ℕ → Leaf → Result Value Fault) (f : ℕ) (leaf : Lea
 unfolding cells_of
 cells_fault item f leaf asked found is = ap (λ (r : Result Value Fault). and_then r (λ v. and_then (cells_of item asked) (λ cells. Ok (cell leaf.kind v ∷ cells)))) is
 
-cells_held : (file : List ℕ) (s : Section) (fixed : Option Fixed) (i : ℕ) (blocks : List Block) → AllByRecursion (IsOf s fixed) blocks → AllByRecursion (Holds file) blocks → AllByRecursion (HasRecords i 1) blocks
-    → cells_of (looks file s fixed i) (map field_of blocks) ≡ Ok (map (cell_at i) blocks)
+cells_held : (show : ℕ → Value → Value) (file : List ℕ) (s : Section) (fixed : Option Fixed) (i : ℕ) (blocks : List Block) → AllByRecursion (IsOf s fixed) blocks → AllByRecursion (Holds file) blocks → AllByRecursion (HasRecords i 1) blocks
+    → cells_of (shown_looks show file s fixed i) (map field_of blocks) ≡ Ok (map (cell_at show i) blocks)
 unfolding cells_of
-cells_held file s fixed i [] are hold have = refl
-cells_held file s fixed i (b ∷ blocks) are hold have =
-    cells_first (looks file s fixed i) (field_of b).0 (field_of b).1 (map field_of blocks) (held_item b (i - b.first)) (item_held file s fixed b i are.0 hold.0 have.0)
-    ∙ ap (λ (r : Result (List (List ℕ)) Fault). and_then r (λ cells. Ok (cell_at i b ∷ cells))) (cells_held file s fixed i blocks are.1 hold.1 have.1)
+cells_held show file s fixed i [] are hold have = refl
+cells_held show file s fixed i (b ∷ blocks) are hold have =
+    cells_first (shown_looks show file s fixed i) (field_of b).0 (field_of b).1 (map field_of blocks) (show (field_of b).0 (held_item b (i - b.first))) (ap (shown show (field_of b).0) (item_held file s fixed b i are.0 hold.0 have.0))
+    ∙ ap (λ (r : Result (List (List ℕ)) Fault). and_then r (λ cells. Ok (cell_at show i b ∷ cells))) (cells_held show file s fixed i blocks are.1 hold.1 have.1)
 
 -- the first blocks hold the record, and the next one has a fault
 cells_stop : (file : List ℕ) (s : Section) (fixed : Option Fixed) (i : ℕ) (before : List Block) (b : Block) (rest : List (ℕ × Leaf)) (found : Fault) → AllByRecursion (IsOf s fixed) before → AllByRecursion (Holds file) before → AllByRecursion (HasRecords i 1) before
@@ -60,11 +65,34 @@ cells_stop : (file : List ℕ) (s : Section) (fixed : Option Fixed) (i : ℕ) (b
 cells_stop file s fixed i [] b rest found are hold have wrong = cells_fault (looks file s fixed i) (field_of b).0 (field_of b).1 rest found wrong
 cells_stop file s fixed i (c ∷ before) b rest found are hold have wrong =
     cells_first (looks file s fixed i) (field_of c).0 (field_of c).1 (map field_of before ++ field_of b ∷ rest) (held_item c (i - c.first)) (item_held file s fixed c i are.0 hold.0 have.0)
-    ∙ ap (λ (r : Result (List (List ℕ)) Fault). and_then r (λ cells. Ok (cell_at i c ∷ cells))) (cells_stop file s fixed i before b rest found are.1 hold.1 have.1 wrong)
+    ∙ ap (λ (r : Result (List (List ℕ)) Fault). and_then r (λ cells. Ok (cell_at as_it_is i c ∷ cells))) (cells_stop file s fixed i before b rest found are.1 hold.1 have.1 wrong)
 
-row_held : (file : List ℕ) (s : Section) (fixed : Option Fixed) (i : ℕ) (blocks : List Block) → AllByRecursion (IsOf s fixed) blocks → AllByRecursion (Holds file) blocks → AllByRecursion (HasRecords i 1) blocks → section_row file s fixed (map field_of blocks) i ≡ Ok (held_row blocks i)
-unfolding section_row
-row_held file s fixed i blocks are hold have = ap (λ (r : Result (List (List ℕ)) Fault). and_then r (λ cells. Ok (csv_row cells))) (cells_held file s fixed i blocks are hold have)
+row_held : (show : ℕ → Value → Value) (file : List ℕ) (s : Section) (fixed : Option Fixed) (i : ℕ) (blocks : List Block) → AllByRecursion (IsOf s fixed) blocks → AllByRecursion (Holds file) blocks → AllByRecursion (HasRecords i 1) blocks
+    → shown_row show file s fixed (map field_of blocks) i ≡ Ok (held_row show blocks i)
+unfolding shown_row
+row_held show file s fixed i blocks are hold have = ap (λ (r : Result (List (List ℕ)) Fault). and_then r (λ cells. Ok (csv_row cells))) (cells_held show file s fixed i blocks are hold have)
+
+-- what is shown has the fault of what is found
+cells_lost : (show : ℕ → Value → Value) (item : ℕ → Leaf → Result Value Fault) (asked : List (ℕ × Leaf)) (found : Fault) → cells_of item asked ≡ Err found → cells_of (λ f leaf. shown show f (item f leaf)) asked ≡ Err found
+unfolding cells_of
+cells_lost show item [] found is = absurd cc
+cells_lost show item ((f, leaf) ∷ asked) found is = by_item (item f leaf) (cells_of item asked) refl (cells_lost show item asked found) is
+  where
+    by_item : (r : Result Value Fault) (rest : Result (List (List ℕ)) Fault) → cells_of item asked ≡ rest → (cells_of item asked ≡ Err found → cells_of (λ f leaf. shown show f (item f leaf)) asked ≡ Err found)
+        → and_then r (λ v. and_then rest (λ cells. Ok (cell leaf.kind v ∷ cells))) ≡ Err found
+        → and_then (shown show f r) (λ v. and_then (cells_of (λ f leaf. shown show f (item f leaf)) asked) (λ cells. Ok (cell leaf.kind v ∷ cells))) ≡ Err found
+    by_item (Err e) rest at_rest later is = cc
+    by_item (Ok v) (Ok cells) at_rest later is = absurd cc
+    by_item (Ok v) (Err e) at_rest later is = rw (later (at_rest ∙ cc)) refl
+
+pub row_lost : (show : ℕ → Value → Value) (file : List ℕ) (s : Section) (fixed : Option Fixed) (asked : List (ℕ × Leaf)) (i : ℕ) (found : Fault) → section_row file s fixed asked i ≡ Err found → shown_row show file s fixed asked i ≡ Err found
+unfolding section_row shown_row
+row_lost show file s fixed asked i found is = by_cells (cells_of (looks file s fixed i) asked) refl is
+  where
+    by_cells : (r : Result (List (List ℕ)) Fault) → cells_of (looks file s fixed i) asked ≡ r → and_then r (λ cells. Ok (csv_row cells)) ≡ Err found
+        → and_then (cells_of (shown_looks show file s fixed i) asked) (λ cells. Ok (csv_row cells)) ≡ Err found
+    by_cells (Ok cells) at_cells is = absurd cc
+    by_cells (Err e) at_cells is = rw (cells_lost show (looks file s fixed i) asked found (at_cells ∙ cc)) refl
 
 pub row_stop : (file : List ℕ) (s : Section) (fixed : Option Fixed) (i : ℕ) (before : List Block) (b : Block) (rest : List (ℕ × Leaf)) (found : Fault) → AllByRecursion (IsOf s fixed) before → AllByRecursion (Holds file) before → AllByRecursion (HasRecords i 1) before → IsOf s fixed b
     → column_item file b.column i ≡ Err found → section_row file s fixed (map field_of before ++ field_of b ∷ rest) i ≡ Err found
@@ -95,23 +123,23 @@ pub record AreRows (row : ℕ → Result (List ℕ) Fault) (i n : ℕ) (text : L
   pub sound : rows_fault row i n ≡ None
   pub text_is : text ≡ rows_text row i n
 
-rows_held : (row : ℕ → Result (List ℕ) Fault) (blocks : List Block) (i n : ℕ) → ((k : ℕ) → k < n → row (i + k) ≡ Ok (held_row blocks (i + k))) → AreRows row i n (held_rows blocks i n)
+rows_held : (show : ℕ → Value → Value) (row : ℕ → Result (List ℕ) Fault) (blocks : List Block) (i n : ℕ) → ((k : ℕ) → k < n → row (i + k) ≡ Ok (held_row show blocks (i + k))) → AreRows row i n (held_rows show blocks i n)
 unfolding held_rows rows_text rows_fault
-rows_held row blocks i zero each = record { sound = refl; text_is = refl }
-rows_held row blocks i (suc n) each =
+rows_held show row blocks i zero each = record { sound = refl; text_is = refl }
+rows_held show row blocks i (suc n) each =
     let here = rw add-zero at (each 0 (omega arith)) in
-    let rest = rows_held row blocks (i + 1) n (λ k below. let place : i + (k + 1) ≡ i + 1 + k = omega arith in subst (λ (j : ℕ). row j ≡ Ok (held_row blocks j)) place (each (k + 1) (omega (arith, below)))) in
+    let rest = rows_held show row blocks (i + 1) n (λ k below. let place : i + (k + 1) ≡ i + 1 + k = omega arith in subst (λ (j : ℕ). row j ≡ Ok (held_row show blocks j)) place (each (k + 1) (omega (arith, below)))) in
     record {
-      sound = fault_first row i n (held_row blocks i) here ∙ rest.sound;
-      text_is = ap (λ (t : List ℕ). held_row blocks i ++ t) rest.text_is ∙ sym (text_first row i n (held_row blocks i) here);
+      sound = fault_first row i n (held_row show blocks i) here ∙ rest.sound;
+      text_is = ap (λ (t : List ℕ). held_row show blocks i ++ t) rest.text_is ∙ sym (text_first row i n (held_row show blocks i) here);
     }
 
 -- the rows of the records that all blocks hold
-pub rows_sound : (file : List ℕ) (s : Section) (fixed : Option Fixed) (asked : List (ℕ × Leaf)) (blocks : List Block) (i n : ℕ) → AreBlocks s fixed asked blocks → AllByRecursion (Holds file) blocks → AllByRecursion (HasRecords i n) blocks → AreRows (section_row file s fixed asked) i n (held_rows blocks i n)
-rows_sound file s fixed asked blocks i n are hold have =
-    subst (λ (fields : List (ℕ × Leaf)). AreRows (section_row file s fixed fields) i n (held_rows blocks i n)) are.fields
-    (rows_held (section_row file s fixed (map field_of blocks)) blocks i n
-    (λ k below. row_held file s fixed (i + k) blocks are.all hold
+pub rows_sound : (show : ℕ → Value → Value) (file : List ℕ) (s : Section) (fixed : Option Fixed) (asked : List (ℕ × Leaf)) (blocks : List Block) (i n : ℕ) → AreBlocks s fixed asked blocks → AllByRecursion (Holds file) blocks → AllByRecursion (HasRecords i n) blocks → AreRows (shown_row show file s fixed asked) i n (held_rows show blocks i n)
+rows_sound show file s fixed asked blocks i n are hold have =
+    subst (λ (fields : List (ℕ × Leaf)). AreRows (shown_row show file s fixed fields) i n (held_rows show blocks i n)) are.fields
+    (rows_held show (shown_row show file s fixed (map field_of blocks)) blocks i n
+    (λ k below. row_held show file s fixed (i + k) blocks are.all hold
     (all_map (HasRecords i n) (HasRecords (i + k) 1) blocks (λ b has. let low = has.0 in let high = has.1 in (omega (arith, low), omega (arith, high, below))) have)))
 
 -- what follows n rows without a fault, with their text

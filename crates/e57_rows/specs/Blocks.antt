@@ -7,6 +7,7 @@ use Rattle.e57_base.specs.declared.fault.OpenFault.{OpenFault}
 use Rattle.e57_base.specs.declared.fault.OpenFault.TheVariants.{Refused, Source, Memory}
 use Rattle.e57_layout.specs.declared.field.Fixed.{Fixed}
 use Rattle.e57_layout.specs.declared.section.Section.{Section}
+use Rattle.e57_layout.specs.Values.{Value}
 use Rattle.e57_cloud.specs.Cloud.{Leaf}
 use Rattle.e57_stream.specs.Asking.{AsksMet}
 use Rattle.e57_column.specs.Finding.{is_column_kind}
@@ -54,18 +55,18 @@ pub record OpensBlocks (s : Section) (fixed : Option Fixed) (asked : List (ℕ �
 
 -- ---- the rows of the records that they hold
 
--- the cell of record i
-abbrev pub cell_at : ℕ → Block → List ℕ
-cell_at i b = cell (kind_of b.column.items) (held_item b (i - b.first))
+-- the cell of record i, of the item as it is shown
+abbrev pub cell_at : (ℕ → Value → Value) → ℕ → Block → List ℕ
+cell_at show i b = cell (kind_of b.column.items) (show b.column.stream.field (held_item b (i - b.first)))
 
 -- the row of record i
-abbrev pub held_row : List Block → ℕ → List ℕ
-held_row blocks i = csv_row (map (cell_at i) blocks)
+abbrev pub held_row : (ℕ → Value → Value) → List Block → ℕ → List ℕ
+held_row show blocks i = csv_row (map (cell_at show i) blocks)
 
 -- the rows of the n records from record i on
-unfoldable pub held_rows : List Block → ℕ → ℕ → List ℕ
-held_rows blocks i zero = []
-held_rows blocks i (suc n) = held_row blocks i ++ held_rows blocks (i + 1) n
+unfoldable pub held_rows : (ℕ → Value → Value) → List Block → ℕ → ℕ → List ℕ
+held_rows show blocks i zero = []
+held_rows show blocks i (suc n) = held_row show blocks i ++ held_rows show blocks (i + 1) n
 
 -- ---- one block filled
 

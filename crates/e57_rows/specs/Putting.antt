@@ -9,11 +9,12 @@ use Rattle.e57_base.specs.declared.fault.RunFault.TheVariants.{Refused, Source, 
 use Rattle.e57_layout.specs.declared.field.Field.{Field}
 use Rattle.e57_layout.specs.declared.field.Fixed.{Fixed}
 use Rattle.e57_layout.specs.declared.section.Section.{Section}
+use Rattle.e57_layout.specs.Values.{Value}
 use Rattle.e57_cloud.specs.Cloud.{Leaf}
 use Rattle.e57_cloud.specs.Met.{OnItem}
 use Rattle.e57_stream.specs.Asking.{AsksMet}
 use Rattle.e57_column.specs.Finding.{is_column_kind}
-use Rattle.e57_rows.specs.Rows.{asked_of, section_row, rows_text, rows_fault}
+use Rattle.e57_rows.specs.Rows.{asked_of, shown_row, rows_text, rows_fault}
 
 -- the asked fields of some records of a section, one or more: the first of them, and how many
 pub record Slice : Type 0 where
@@ -27,13 +28,13 @@ pub record Slice : Type 0 where
 abbrev pub slice_of : Section → Option Fixed → List Field → List ℕ → ℕ → ℕ → Slice
 slice_of s fixed fields asked from count = record { section = s; fixed = fixed; asked = asked_of fields asked; from = from; count = count }
 
--- the rows of a slice in a file, up to the first record with a fault
-abbrev pub slice_text : Slice → List ℕ → List ℕ
-slice_text a file = rows_text (section_row file a.section a.fixed a.asked) a.from a.count
+-- the rows of a slice in a file, of items as they are shown, up to the first record with a fault
+abbrev pub slice_text : (ℕ → Value → Value) → Slice → List ℕ → List ℕ
+slice_text show a file = rows_text (shown_row show file a.section a.fixed a.asked) a.from a.count
 
 -- the fault of the first of its records that has one
-abbrev pub slice_fault : Slice → List ℕ → Option Fault
-slice_fault a file = rows_fault (section_row file a.section a.fixed a.asked) a.from a.count
+abbrev pub slice_fault : (ℕ → Value → Value) → Slice → List ℕ → Option Fault
+slice_fault show a file = rows_fault (shown_row show file a.section a.fixed a.asked) a.from a.count
 
 -- page p is one on the way to the item of one of its fields and records
 pub record OnSlice (a : Slice) (file : List ℕ) (p : ℕ) : Type 0 where
@@ -46,27 +47,27 @@ pub record OnSlice (a : Slice) (file : List ℕ) (p : ℕ) : Type 0 where
   pub way : OnItem file a.section a.fixed f leaf i p
 
 -- its rows were put
-abbrev pub PutsText : Slice → Option (List ℕ) → SinkView → SinkView → Type 0
-PutsText a held out out' = (text : List ℕ) × IfSome held (λ file. text ≡ slice_text a file) × Grows out.written text out'.written
+abbrev pub PutsText : (ℕ → Value → Value) → Slice → Option (List ℕ) → SinkView → SinkView → Type 0
+PutsText show a held out out' = (text : List ℕ) × IfSome held (λ file. text ≡ slice_text show a file) × Grows out.written text out'.written
 
 -- a prefix of them was
-abbrev pub PutsFront : Slice → Option (List ℕ) → SinkView → SinkView → Type 0
-PutsFront a held out out' = (text : List ℕ) × IfSome held (λ file. text ≡ slice_text a file) × GrowsByFront out.written text out'.written
+abbrev pub PutsFront : (ℕ → Value → Value) → Slice → Option (List ℕ) → SinkView → SinkView → Type 0
+PutsFront show a held out out' = (text : List ℕ) × IfSome held (λ file. text ≡ slice_text show a file) × GrowsByFront out.written text out'.written
 
 -- All its rows were put: none of its records has a fault. Only pages on the way to its items were asked for.
-pub record PutsRows (a : Slice) (old new : SourceView) (out out' : SinkView) : Type 0 where
+pub record PutsRows (show : ℕ → Value → Value) (a : Slice) (old new : SourceView) (out out' : SinkView) : Type 0 where
   pub met : AsksMet (OnSlice a) old new
-  pub sound : IfSome old.held (λ file. slice_fault a file ≡ None)
-  pub wrote : PutsText a old.held out out'
+  pub sound : IfSome old.held (λ file. slice_fault show a file ≡ None)
+  pub wrote : PutsText show a old.held out out'
 
 -- why they weren't: the fault of a record, and the rows before it were put; the source or the sink failed; or memory ran out
-abbrev pub IsRowsCause : Slice → SourceView → SourceView → SinkView → SinkView → RunFault → Type 0
-IsRowsCause a old new out out' (Refused found) = (is_column_kind found.kind ≡ true) × IfSome old.held (λ file. slice_fault a file ≡ Some found) × PutsText a old.held out out'
-IsRowsCause a old new out out' Source = Rose old.faults new.faults × PutsFront a old.held out out'
-IsRowsCause a old new out out' Out = Rose out.faults out'.faults × PutsFront a old.held out out'
-IsRowsCause a old new out out' Memory = PutsFront a old.held out out'
-IsRowsCause a old new out out' (Ask why) = ⊥
+abbrev pub IsRowsCause : (ℕ → Value → Value) → Slice → SourceView → SourceView → SinkView → SinkView → RunFault → Type 0
+IsRowsCause show a old new out out' (Refused found) = (is_column_kind found.kind ≡ true) × IfSome old.held (λ file. slice_fault show a file ≡ Some found) × PutsText show a old.held out out'
+IsRowsCause show a old new out out' Source = Rose old.faults new.faults × PutsFront show a old.held out out'
+IsRowsCause show a old new out out' Out = Rose out.faults out'.faults × PutsFront show a old.held out out'
+IsRowsCause show a old new out out' Memory = PutsFront show a old.held out out'
+IsRowsCause show a old new out out' (Ask why) = ⊥
 
-pub record FailsRows (a : Slice) (old new : SourceView) (out out' : SinkView) (fault : RunFault) : Type 0 where
+pub record FailsRows (show : ℕ → Value → Value) (a : Slice) (old new : SourceView) (out out' : SinkView) (fault : RunFault) : Type 0 where
   pub met : AsksMet (OnSlice a) old new
-  pub cause : IsRowsCause a old new out out' fault
+  pub cause : IsRowsCause show a old new out out' fault

@@ -42,7 +42,16 @@ cells_of item ((f, leaf) ∷ asked) = and_then (item f leaf) (λ v. and_then (ce
 abbrev pub row_of : (ℕ → Leaf → Result Value Fault) → List (ℕ × Leaf) → Result (List ℕ) Fault
 row_of item asked = and_then (cells_of item asked) (λ cells. Ok (csv_row cells))
 
--- the row of record i of a section
+-- the item of field f as it is shown, or its fault
+abbrev pub shown : (ℕ → Value → Value) → ℕ → Result Value Fault → Result Value Fault
+shown show f (Ok v) = Ok (show f v)
+shown show f (Err found) = Err found
+
+-- the row of record i of a section, of items as they are shown
+unfoldable pub shown_row : (ℕ → Value → Value) → List ℕ → Section → Option Fixed → List (ℕ × Leaf) → ℕ → Result (List ℕ) Fault
+shown_row show file s fixed asked i = row_of (λ f leaf. shown show f (item_of file s fixed f leaf i)) asked
+
+-- the row of record i of a section, of items as they are
 unfoldable pub section_row : List ℕ → Section → Option Fixed → List (ℕ × Leaf) → ℕ → Result (List ℕ) Fault
 section_row file s fixed asked i = row_of (λ f leaf. item_of file s fixed f leaf i) asked
 

@@ -2,11 +2,13 @@
 
 ghost use Rattle.std.specs.Prelude.{◌+◌, ◌^◌, ◌<◌, ◌++◌, ◌∷◌, ℕ, List, [], Option, length, OnOk};
 ghost use Rattle.e57_rows.specs.Cells.{csv_row, item_text};
+ghost use Rattle.e57_rows.specs.Lined.{IsOnLine, line_text};
 ghost use Rattle.e57_rows.specs.Writing.{AtRow, InRow};
 
 use crate::hexadecimal::{digits32, digits64};
 use csv::Writer;
 use e57_blocks::Item;
+use e57_decimal::Linear;
 use itoa::Buffer;
 use std::alloc::AllocError;
 use std::io::Write;
@@ -36,6 +38,26 @@ pub fn write_item<W: Write + Drop>(
         Item::Word32(word) => write_text(writer, digits32(word).as_slice()),
         Item::Word64(word) => write_text(writer, digits64(word).as_slice()),
         Item::Text(bytes) => write_text(writer, bytes),
+    }
+}
+
+/// Writes an item as the next cell of a row: an integer with a line as the number that it stands for.
+#[inline(always)]
+pub fn write_on_line<W: Write + Drop>(
+    writer: &mut Writer<W>,
+    line: &Option<Linear>,
+    item: Item<'_>,
+    digits: &mut Buffer,
+) -> Result<(), AllocError>
+    requires { IsOnLine line.now item }
+    ensures { (base : Option (List ℕ)) → (cells : List (List ℕ)) → length cells + 1 < 2 ^ 64 → InRow W.contents base cells writer.old → OnOk result (InRow W.contents base (cells ++ line_text line.now item.entry ∷ []) writer.new) }
+{
+    match (line, item) {
+        (Some(line), Item::Whole(number)) => {
+            let text = line.text(number);
+            write_text(writer, text.as_bytes())
+        }
+        (_, item) => write_item(writer, item, digits),
     }
 }
 

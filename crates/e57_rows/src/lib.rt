@@ -5,9 +5,12 @@
 mod blocks;
 mod cell;
 mod hexadecimal;
+mod numbers;
 mod paths;
 mod put;
+mod shown;
 mod text;
 
+pub use numbers::has_decimals;
 pub use paths::heading;
 pub use put::put_rows;

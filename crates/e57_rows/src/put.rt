@@ -8,16 +8,19 @@ ghost use Rattle.e57_layout.specs.Values.{IsValidField};
 ghost use Rattle.e57_section.specs.Opening.{LiesIn};
 ghost use Rattle.e57_ahead.specs.Counting.{IsWidth};
 ghost use Rattle.e57_rows.specs.Putting.{slice_of, PutsRows, FailsRows};
+ghost use Rattle.e57_rows.specs.Shown.{show_of};
 
 use crate::blocks::{MOST, fill_blocks, open_blocks};
-use crate::text::rows_of;
+use crate::numbers::lines;
+use crate::shown::rows_shown;
 use e57_base::{RunFault, Sink, Source};
 use e57_layout::{Field, Fixed, Section};
 use e57_page::Pages;
 use std::alloc::Global;
 
 /// Puts the rows of the `count` records from record `from` on: of each the items of the asked fields, by their numbers, in the
-/// asked order. `fields` are those of the section's cloud, and `fixed` is the first Float field of them, if there is one.
+/// asked order. `fields` are those of the section's cloud, and `fixed` is the first Float field of them, if there is one. With
+/// `numbers` a scaled integer is put as the number that it stands for, if its field has decimals.
 ///
 /// Refuses the fault of the first record that has one, and of that record the fault of the first asked field that has one; the
 /// rows of the records before it were put. `Source` if the source failed, `Out` if the sink failed, `Memory` if there is none;
@@ -31,6 +34,7 @@ pub fn put_rows<S: Source, O: Sink>(
     fixed: Option<Fixed>,
     fields: &[Field],
     asked: &[u16],
+    numbers: bool,
     from: u64,
     count: u64,
     pages: &mut Pages<S>,
@@ -44,11 +48,12 @@ pub fn put_rows<S: Source, O: Sink>(
     requires left { from + count ≤ section.now.count }
     ensures length { pages.new.length ≡ pages.old.length }
     ensures header { pages.new.header ≡ pages.old.header }
-    ensures rows { let a = slice_of section.now fixed fields.now asked.now from count in MatchResult result
-        (λ _. PutsRows a (S.view pages.old.source) (S.view pages.new.source) (O.view out.old) (O.view out.new))
-        (λ fault. FailsRows a (S.view pages.old.source) (S.view pages.new.source) (O.view out.old) (O.view out.new) fault) }
+    ensures rows { let a = slice_of section.now fixed fields.now asked.now from count in let show = show_of numbers fields.now in MatchResult result
+        (λ _. PutsRows show a (S.view pages.old.source) (S.view pages.new.source) (O.view out.old) (O.view out.new))
+        (λ fault. FailsRows show a (S.view pages.old.source) (S.view pages.new.source) (O.view out.old) (O.view out.new) fault) }
 {
     let _size = pages.logical_len();
+    let lines = lines(alloc, numbers, fields, asked)?;
     let mut blocks = open_blocks(alloc, section, fixed, fields, asked)?;
     let mut text = Vec::new(alloc);
     let until = from + count;
@@ -62,7 +67,7 @@ pub fn put_rows<S: Source, O: Sink>(
             at,
             run_length(until - at),
         )?;
-        text = rows_of(&blocks, at, n, text)?;
+        text = rows_shown(numbers, &lines, &blocks, at, n, text)?;
         match out.put(&text) {
             Ok(()) => at += n as u64,
             Err(_) => return Err(RunFault::Out),

@@ -3,6 +3,7 @@
 ghost use Rattle.std.specs.Prelude.{◌≡◌, ◌+◌, ◌^◌, ◌<◌, ◌++◌, ℕ, List, [], Option, length, IfOk, OnOk};
 ghost use Rattle.std.specs.List.{AllByRecursion};
 ghost use Rattle.e57_rows.specs.Blocks.{HasRecords, held_row, held_rows};
+ghost use Rattle.e57_rows.specs.Shown.{as_it_is};
 ghost use Rattle.e57_rows.specs.Writing.{AtRow, InRow};
 
 use crate::cell::{end_row, write_item};
@@ -22,7 +23,7 @@ pub fn rows_of(
 ) -> Result<Vec<u8>, AllocError>
     requires fits { i + n < 2 ^ 64 }
     requires have { AllByRecursion (HasRecords i n) blocks.now }
-    ensures { IfOk result (λ text. text.items ≡ held_rows blocks.now i n) }
+    ensures { IfOk result (λ text. text.items ≡ held_rows as_it_is blocks.now i n) }
 {
     let mut room = room;
     room.clear();
@@ -45,7 +46,7 @@ fn write_rows<W: Write + Drop>(
 ) -> Result<(), AllocError>
     requires fits { i + n < 2 ^ 64 }
     requires have { AllByRecursion (HasRecords i n) blocks.now }
-    ensures { (base : Option (List ℕ)) → AtRow W.contents base [] writer.old → OnOk result (AtRow W.contents base (held_rows blocks.now i n) writer.new) }
+    ensures { (base : Option (List ℕ)) → AtRow W.contents base [] writer.old → OnOk result (AtRow W.contents base (held_rows as_it_is blocks.now i n) writer.new) }
 {
     let mut digits = Buffer::new();
     for k in 0..n {
@@ -63,7 +64,7 @@ fn write_row<W: Write + Drop>(
     digits: &mut Buffer,
 ) -> Result<(), AllocError>
     requires have { AllByRecursion (HasRecords i 1) blocks.now }
-    ensures { (base : Option (List ℕ)) → (text : List ℕ) → AtRow W.contents base text writer.old → OnOk result (AtRow W.contents base (text ++ held_row blocks.now i) writer.new) }
+    ensures { (base : Option (List ℕ)) → (text : List ℕ) → AtRow W.contents base text writer.old → OnOk result (AtRow W.contents base (text ++ held_row as_it_is blocks.now i) writer.new) }
 {
     for j in 0..blocks.len() {
         write_item(writer, blocks[j].item(i), digits)?;

@@ -57,7 +57,7 @@ e57 info FILE    show the element tree
 e57 list FILE    list the clouds with their fields, and the blobs
 e57 check FILE   judge the whole file
 e57 blob FILE K  write the bytes of blob K
-e57 extract FILE CLOUD [--fields=A,B] [--from=I] [--count=N]  write records as rows
+e57 extract FILE CLOUD [--fields=A,B] [--from=I] [--count=N] [--decimal=yes]  write records as rows
 e57 --help       show this text, as -h does
 e57 --version    show the version
 status 0   done

@@ -149,6 +149,13 @@ const DOUBLES: &[u8] = b"\x01\0\0\0\0\0\0\0\x3c\0\0\0\0\0\0\0\x50\0\0\0\0\0\0\0\
 const DOUBLES_TEXT: &str =
     "<e57Root type=\"Structure\"><p type=\"CompressedVector\" fileOffset=\"48\" recordCount=\"2\"><prototype type=\"Structure\"><a type=\"Structure\"><d type=\"Float\"/></a><i type=\"Integer\" minimum=\"-5\" maximum=\"-5\"/></prototype></p></e57Root>";
 
+// A section of one packet with two integers, 30000 and 30003 in two bits each, beside two fields whose items take no bits.
+const DECIMALS: &[u8] = b"\x01\0\0\0\0\0\0\0\x30\0\0\0\0\0\0\0\x50\0\0\0\0\0\0\0\0\0\0\0\0\0\0\0\
+\x01\x01\x0f\0\x03\0\x01\0\0\0\0\0\x0c\0\0\0";
+
+const DECIMALS_TEXT: &str =
+    "<e57Root type=\"Structure\"><p type=\"CompressedVector\" fileOffset=\"48\" recordCount=\"2\"><prototype type=\"Structure\"><x type=\"ScaledInteger\" minimum=\"30000\" maximum=\"30003\" scale=\"0.001\" offset=\"0\"/><y type=\"ScaledInteger\" minimum=\"7\" maximum=\"7\" scale=\"nan\"/><z type=\"ScaledInteger\" minimum=\"0\" maximum=\"0\" scale=\"0.1\" offset=\"1e60\"/></prototype></p></e57Root>";
+
 // ---- rows
 
 // What the file `scan` holds.
@@ -163,6 +170,7 @@ enum Content {
     Constant,
     Strings,
     Doubles,
+    Decimals,
 }
 
 fn bytes_of(alloc: Global, content: Content) -> Result<Vec<u8>, AllocError> {
@@ -176,6 +184,7 @@ fn bytes_of(alloc: Global, content: Content) -> Result<Vec<u8>, AllocError> {
         Content::Constant => file_with(alloc, NO_PACKETS, CONSTANT_TEXT, 80),
         Content::Strings => file_with(alloc, STRINGS, STRINGS_TEXT, 124),
         Content::Doubles => file_with(alloc, DOUBLES, DOUBLES_TEXT, 108),
+        Content::Decimals => file_with(alloc, DECIMALS, DECIMALS_TEXT, 96),
     }
 }
 
@@ -192,7 +201,7 @@ type Case = (
 const ALL: &[&str] = &["0"];
 
 #[rattlefmt::skip]
-const CASES: [Case; 31] = [
+const CASES: [Case; 38] = [
     (Content::Bits(&[]), ALL, Status::Done, "x\n1\n0\n1\n0\n1\n0\n0\n0\n0\n1\n1\n1\n1\n", "", &[0]),
     (Content::Bits(&[]), &["0", "--from=4", "--count=2"], Status::Done, "x\n1\n0\n", "", &[0]),
     (Content::Bits(&[(93, 0)]), ALL, Status::Refused, "x\n1\n0\n1\n0\n1\n", "refused IndexTarget 1 5\n", &[0]),
@@ -224,6 +233,13 @@ const CASES: [Case; 31] = [
     (Content::Doubles, ALL, Status::Done, "a/d,i\n3ff0000000000000,-5\nc004000000000000,-5\n", "", &[0]),
     (Content::Doubles, &["0", "--from=1", "--fields=i,a/d"], Status::Done, "i,a/d\n-5,c004000000000000\n", "", &[0]),
     (Content::Doubles, &["0", "--fields=i"], Status::Done, "i\n-5\n-5\n", "", &[0]),
+    (Content::Chunks(&[]), &["0", "--decimal=yes", "--from=10", "--count=2"], Status::Done, "cartesianX,cartesianY,intensity,rowIndex,cartesianZ,tag\n0.03,0.05,10,0,3f80000a,aa\n0.033,0.055,11,0,3f80000b,aaa\n", "", &[0, 2, 1]),
+    (Content::Decimals, ALL, Status::Done, "x,y,z\n30000,7,0\n30003,7,0\n", "", &[0]),
+    (Content::Decimals, &["0", "--fields=x", "--decimal=yes"], Status::Done, "x\n30\n30.003\n", "", &[0]),
+    (Content::Decimals, &["0", "--decimal=yes"], Status::AskRefused, "", "ask decimal 1 3\n", &[0]),
+    (Content::Decimals, &["0", "--decimal=yes", "--fields=z,x", "--from=9"], Status::AskRefused, "", "ask decimal 0 3\n", &[0]),
+    (Content::Decimals, &["0", "--fields=z,w", "--decimal=yes"], Status::AskRefused, "", "ask field 1 3\n", &[0]),
+    (Content::Decimals, &["0", "--fields=x", "--from=3", "--decimal=yes"], Status::AskRefused, "", "ask range 3 2\n", &[0]),
 ];
 
 // `extract scan`, and these words behind it.
@@ -259,7 +275,7 @@ fn extract_puts_the_asked_rows(rt: HostRuntime) -> Result<(), Fail> {
 type WordsCase = (&'static [&'static str], Status, &'static str);
 
 #[rattlefmt::skip]
-const WORDS: [WordsCase; 33] = [
+const WORDS: [WordsCase; 37] = [
     (&["extract"], Status::WordsFault, "words 1\n"),
     (&["extract", "scan"], Status::WordsFault, "words 2\n"),
     (&["extract", "--count=1", "scan", "0"], Status::WordsFault, "words 1\n"),
@@ -288,6 +304,10 @@ const WORDS: [WordsCase; 33] = [
     (&["extract", "scan", "0", "--fields=x,,s"], Status::WordsFault, "words 3\n"),
     (&["extract", "scan", "0", "--fields=x,x"], Status::WordsFault, "words 3\n"),
     (&["extract", "scan", "0", "--fields=x,c,f,s,c"], Status::WordsFault, "words 3\n"),
+    (&["extract", "scan", "0", "--decimal=no"], Status::WordsFault, "words 3\n"),
+    (&["extract", "scan", "0", "--decimal="], Status::WordsFault, "words 3\n"),
+    (&["extract", "scan", "0", "--decimal"], Status::WordsFault, "words 3\n"),
+    (&["extract", "scan", "0", "--decimal=yes", "--decimal=yes"], Status::WordsFault, "words 4\n"),
     (&["extract", "scan", "0", "--fields=X"], Status::AskRefused, "ask field 0 4\n"),
     (&["extract", "scan", "0", "--fields=x "], Status::AskRefused, "ask field 0 4\n"),
     (&["extract", "scan", "0", "--fields=x=1"], Status::AskRefused, "ask field 0 4\n"),

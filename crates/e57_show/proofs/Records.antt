@@ -21,7 +21,7 @@ use Rattle.e57_base.specs.declared.kind.Kind.{Kind}
 use Rattle.e57_page.specs.Place.{place}
 use Rattle.e57_page.specs.File.{logical_size}
 use Rattle.e57_page.specs.Pages.{AsksFor}
-use Rattle.e57_layout.specs.Values.{item_kind}
+use Rattle.e57_layout.specs.Values.{item_kind, Value}
 use Rattle.e57_layout.specs.declared.field.Field.{Field}
 use Rattle.e57_layout.specs.declared.field.FieldKind.{FieldKind}
 use Rattle.e57_layout.specs.declared.field.FieldKind.TheVariants.{Int, Scaled, Bits32, Bits64, Text}
@@ -39,6 +39,7 @@ use Rattle.e57_stream.proofs.AskingLaws.{asks_met_on, asks_met_map}
 use Rattle.e57_column.specs.Finding.{is_column_kind}
 use Rattle.e57_nodes.specs.Items.{leaves_of}
 use Rattle.e57_rows.specs.Rows.{asked_of, leaf_of, field_at, no_field, heading_text, rows_text, rows_fault}
+use Rattle.e57_rows.specs.Shown.{show_of}
 use Rattle.e57_rows.specs.Putting.{Slice, OnSlice, PutsRows, FailsRows, IsRowsCause, slice_text, slice_fault}
 use Rattle.e57_show.specs.Extract.{Selection, stated, selected_row, selected_rows, selected_text, selected_fault, is_rows_kind, IsMetBy}
 use Rattle.e57_show.specs.Extracting.{selection_streamed, AsksSelected, PutsFirstRows, PutsRecords, FailsRecords}
@@ -131,14 +132,14 @@ rows-met s section old mid new more all same of first next =
 
 -- ---- the rows
 
-put-all : (s : Selection) (section : Section) (held : Option (List ℕ)) (text : List ℕ) → IfSome held (λ file. IsSectionOf file s section) → IfSome held (λ file. text ≡ slice_text (slice_of s section) file) → IfSome held (λ file. text ≡ selected_rows file s)
+put-all : (s : Selection) (section : Section) (held : Option (List ℕ)) (text : List ℕ) → IfSome held (λ file. IsSectionOf file s section) → IfSome held (λ file. text ≡ slice_text (show_of s.decimal s.fields) (slice_of s section) file) → IfSome held (λ file. text ≡ selected_rows file s)
 put-all s section held text of is =
-    told_both (λ file. IsSectionOf file s section) (λ file. text ≡ slice_text (slice_of s section) file) (λ file. text ≡ selected_rows file s) held
+    told_both (λ file. IsSectionOf file s section) (λ file. text ≡ slice_text (show_of s.decimal s.fields) (slice_of s section) file) (λ file. text ≡ selected_rows file s) held
     (λ file here same. same ∙ sym (rows-sound file s section here)) of is
 
-fault-all : (s : Selection) (section : Section) (held : Option (List ℕ)) (found : Option Fault) → IfSome held (λ file. IsSectionOf file s section) → IfSome held (λ file. slice_fault (slice_of s section) file ≡ found) → IfSome held (λ file. selected_fault file s ≡ found)
+fault-all : (s : Selection) (section : Section) (held : Option (List ℕ)) (found : Option Fault) → IfSome held (λ file. IsSectionOf file s section) → IfSome held (λ file. slice_fault (show_of s.decimal s.fields) (slice_of s section) file ≡ found) → IfSome held (λ file. selected_fault file s ≡ found)
 fault-all s section held found of is =
-    told_both (λ file. IsSectionOf file s section) (λ file. slice_fault (slice_of s section) file ≡ found) (λ file. selected_fault file s ≡ found) held
+    told_both (λ file. IsSectionOf file s section) (λ file. slice_fault (show_of s.decimal s.fields) (slice_of s section) file ≡ found) (λ file. selected_fault file s ≡ found) held
     (λ file here same. fault-sound file s section here ∙ same) of is
 
 column-kind : (kind : Kind) → is_column_kind kind ≡ true → is_rows_kind kind ≡ true
@@ -156,30 +157,30 @@ section-kind kind is = either (is_section_kind kind) (is_column_kind kind) is
     either false b is = absurd cc
 
 pub rows-put : {T : Type 0} (s : Selection) (section : Section) (old mid new : SourceView) (out out' : SinkView) (result : Result T RunFault) → mid.held ≡ old.held → old.faults ≤ mid.faults → IfSome old.held (λ file. IsSectionOf file s section)
-    → MatchResult result (λ _. PutsRows (slice_of s section) mid new out out') (λ fault. FailsRows (slice_of s section) mid new out out' fault)
+    → MatchResult result (λ _. PutsRows (show_of s.decimal s.fields) (slice_of s section) mid new out out') (λ fault. FailsRows (show_of s.decimal s.fields) (slice_of s section) mid new out out' fault)
     → MatchResult result (λ _. PutsRecords s old out out') (λ fault. FailsRecords s old new out out' fault)
 rows-put s section old mid new out out' (Ok x) same counts of is =
     let a = slice_of s section in (
-      fault-all s section old.held None of (told_here (λ file. slice_fault a file ≡ None) mid.held old.held (sym same) is.sound),
-      (is.wrote.0, put-all s section old.held is.wrote.0 of (told_here (λ file. is.wrote.0 ≡ slice_text a file) mid.held old.held (sym same) is.wrote.1), is.wrote.2),
+      fault-all s section old.held None of (told_here (λ file. slice_fault (show_of s.decimal s.fields) a file ≡ None) mid.held old.held (sym same) is.sound),
+      (is.wrote.0, put-all s section old.held is.wrote.0 of (told_here (λ file. is.wrote.0 ≡ slice_text (show_of s.decimal s.fields) a file) mid.held old.held (sym same) is.wrote.1), is.wrote.2),
     )
 rows-put s section old mid new out out' (Err fault) same counts of is = by_cause fault is.cause
   where
-    by_cause : (fault : RunFault) → IsRowsCause (slice_of s section) mid new out out' fault → FailsRecords s old new out out' fault
+    by_cause : (fault : RunFault) → IsRowsCause (show_of s.decimal s.fields) (slice_of s section) mid new out out' fault → FailsRecords s old new out out' fault
     by_cause (Refused found) (kind, wrong, (text, read, wrote)) = (
       column-kind found.kind kind,
-      fault-all s section old.held (Some found) of (told_here (λ file. slice_fault (slice_of s section) file ≡ Some found) mid.held old.held (sym same) wrong),
-      (text, put-all s section old.held text of (told_here (λ file. text ≡ slice_text (slice_of s section) file) mid.held old.held (sym same) read), wrote),
+      fault-all s section old.held (Some found) of (told_here (λ file. slice_fault (show_of s.decimal s.fields) (slice_of s section) file ≡ Some found) mid.held old.held (sym same) wrong),
+      (text, put-all s section old.held text of (told_here (λ file. text ≡ slice_text (show_of s.decimal s.fields) (slice_of s section) file) mid.held old.held (sym same) read), wrote),
     )
     by_cause Source (rose, (text, read, wrote)) = (
       rose_before old.faults mid.faults new.faults counts rose,
-      (text, put-all s section old.held text of (told_here (λ file. text ≡ slice_text (slice_of s section) file) mid.held old.held (sym same) read), wrote),
+      (text, put-all s section old.held text of (told_here (λ file. text ≡ slice_text (show_of s.decimal s.fields) (slice_of s section) file) mid.held old.held (sym same) read), wrote),
     )
     by_cause Out (rose, (text, read, wrote)) = (
       rose,
-      (text, put-all s section old.held text of (told_here (λ file. text ≡ slice_text (slice_of s section) file) mid.held old.held (sym same) read), wrote),
+      (text, put-all s section old.held text of (told_here (λ file. text ≡ slice_text (show_of s.decimal s.fields) (slice_of s section) file) mid.held old.held (sym same) read), wrote),
     )
-    by_cause Memory (text, read, wrote) = (text, put-all s section old.held text of (told_here (λ file. text ≡ slice_text (slice_of s section) file) mid.held old.held (sym same) read), wrote)
+    by_cause Memory (text, read, wrote) = (text, put-all s section old.held text of (told_here (λ file. text ≡ slice_text (show_of s.decimal s.fields) (slice_of s section) file) mid.held old.held (sym same) read), wrote)
     by_cause (Ask why) never = absurd never
 
 -- ---- no row
@@ -304,9 +305,9 @@ pub given-slice : (s : Selection) (section : Section) (fixed : Option Fixed) (nu
     → ◌≡◌ {A = Slice} (record { section = section; fixed = fixed; asked = asked_of s.fields numbers; from = s.from; count = s.count }) (slice_of s section)
 given-slice s section fixed numbers is same = rw (is, same) refl
 
-pub met-of : {T : Type 0} (a : Slice) (old new : SourceView) (out out' : SinkView) (result : Result T RunFault) → MatchResult result (λ _. PutsRows a old new out out') (λ fault. FailsRows a old new out out' fault) → AsksMet (OnSlice a) old new
-met-of a old new out out' (Ok x) is = is.met
-met-of a old new out out' (Err fault) is = is.met
+pub met-of : {T : Type 0} (show : ℕ → Value → Value) (a : Slice) (old new : SourceView) (out out' : SinkView) (result : Result T RunFault) → MatchResult result (λ _. PutsRows show a old new out out') (λ fault. FailsRows show a old new out out' fault) → AsksMet (OnSlice a) old new
+met-of show a old new out out' (Ok x) is = is.met
+met-of show a old new out out' (Err fault) is = is.met
 
 pub same-fields : (rows : List (List Field)) (k : ℕ) (a b : List Field) → slice_get rows k ≡ Some a → slice_get rows k ≡ Some b → a ≡ b
 same-fields rows k a b at_a at_b = some-same a b (sym at_a ∙ at_b)

@@ -11,7 +11,8 @@ use Rattle.e57_cloud.specs.PathItem.{and_then, item_of, path_item}
 use Rattle.e57_column.proofs.CloudLaws.{item_of-cloud}
 use Rattle.e57_nodes.specs.Items.{leaves_of}
 use Rattle.e57_rows.specs.Cells.{csv_row}
-use Rattle.e57_rows.specs.Rows.{asked_of, cells_of, section_row, rows_text, rows_fault}
+use Rattle.e57_rows.specs.Rows.{asked_of, cells_of, shown, shown_row, rows_text, rows_fault}
+use Rattle.e57_rows.specs.Shown.{show_of}
 use Rattle.e57_rows.specs.Putting.{Slice, slice_text, slice_fault}
 use Rattle.e57_show.specs.Extract.{Selection, stated, cloud_row, selected_row, selected_rows, selected_fault}
 
@@ -34,11 +35,11 @@ fault-same p q i (suc n) same = rw (same i, fault-same p q (i + 1) n same) refl
 
 -- ---- a section without a fault
 
-row-sound : (file : List ℕ) (c : Cloud) (s : Section) (asked : List (ℕ × Leaf)) (i : ℕ) → section_fault file c.node c.offset ≡ None → s ≡ section_of file c → cloud_row file c asked i ≡ section_row file s (fixed_of c) asked i
-unfolding cloud_row section_row
-row-sound file c s asked i none same =
+row-sound : (show : ℕ → Value → Value) (file : List ℕ) (c : Cloud) (s : Section) (asked : List (ℕ × Leaf)) (i : ℕ) → section_fault file c.node c.offset ≡ None → s ≡ section_of file c → cloud_row show file c asked i ≡ shown_row show file s (fixed_of c) asked i
+unfolding cloud_row shown_row
+row-sound show file c s asked i none same =
     ap (λ (r : Result (List (List ℕ)) Fault). and_then r (λ cells. Ok (csv_row cells)))
-    (cells-same (λ f leaf. path_item file c f leaf i) (λ f leaf. item_of file s (fixed_of c) f leaf i) asked (λ f leaf. sym (item_of-cloud file c s f leaf i none same)))
+    (cells-same (λ f leaf. shown show f (path_item file c f leaf i)) (λ f leaf. shown show f (item_of file s (fixed_of c) f leaf i)) asked (λ f leaf. ap (shown show f) (sym (item_of-cloud file c s f leaf i none same))))
 
 -- what is read of the section of a selection
 abbrev pub IsSectionOf : List ℕ → Selection → Section → Type 0
@@ -50,15 +51,15 @@ slice_of s section = record { section = section; fixed = float_from 0 (leaves_of
 pub same-section : (file : List ℕ) (s : Selection) (section : Section) → section ≡ section_at file s.cloud.node s.cloud.place s.cloud.count (length s.fields) → section ≡ section_of file (stated s)
 same-section file s section is = is ∙ ap (λ (n : ℕ). section_at file s.cloud.node s.cloud.place s.cloud.count n) (sym (length-map s.fields (λ (field : Field). record { node = field.node; kind = item_kind field.kind })))
 
-pub rows-sound : (file : List ℕ) (s : Selection) (section : Section) → IsSectionOf file s section → selected_rows file s ≡ slice_text (slice_of s section) file
+pub rows-sound : (file : List ℕ) (s : Selection) (section : Section) → IsSectionOf file s section → selected_rows file s ≡ slice_text (show_of s.decimal s.fields) (slice_of s section) file
 rows-sound file s section (none, is) =
-    text-same (selected_row file s) (section_row file section (fixed_of (stated s)) (asked_of s.fields s.numbers)) s.from s.count
-    (λ i. row-sound file (stated s) section (asked_of s.fields s.numbers) i none (same-section file s section is))
+    text-same (selected_row file s) (shown_row (show_of s.decimal s.fields) file section (fixed_of (stated s)) (asked_of s.fields s.numbers)) s.from s.count
+    (λ i. row-sound (show_of s.decimal s.fields) file (stated s) section (asked_of s.fields s.numbers) i none (same-section file s section is))
 
-pub fault-sound : (file : List ℕ) (s : Selection) (section : Section) → IsSectionOf file s section → selected_fault file s ≡ slice_fault (slice_of s section) file
+pub fault-sound : (file : List ℕ) (s : Selection) (section : Section) → IsSectionOf file s section → selected_fault file s ≡ slice_fault (show_of s.decimal s.fields) (slice_of s section) file
 fault-sound file s section (none, is) =
-    fault-same (selected_row file s) (section_row file section (fixed_of (stated s)) (asked_of s.fields s.numbers)) s.from s.count
-    (λ i. row-sound file (stated s) section (asked_of s.fields s.numbers) i none (same-section file s section is))
+    fault-same (selected_row file s) (shown_row (show_of s.decimal s.fields) file section (fixed_of (stated s)) (asked_of s.fields s.numbers)) s.from s.count
+    (λ i. row-sound (show_of s.decimal s.fields) file (stated s) section (asked_of s.fields s.numbers) i none (same-section file s section is))
 
 -- ---- a section with a fault
 
@@ -66,10 +67,10 @@ path-fault : (file : List ℕ) (c : Cloud) (f : ℕ) (leaf : Leaf) (i : ℕ) (fo
 unfolding path_item
 path-fault file c f leaf i found is = rw is refl
 
-row-fault : (file : List ℕ) (c : Cloud) (asked : List (ℕ × Leaf)) (i : ℕ) (found : Fault) → section_fault file c.node c.offset ≡ Some found → 0 < length asked → cloud_row file c asked i ≡ Err found
+row-fault : (show : ℕ → Value → Value) (file : List ℕ) (c : Cloud) (asked : List (ℕ × Leaf)) (i : ℕ) (found : Fault) → section_fault file c.node c.offset ≡ Some found → 0 < length asked → cloud_row show file c asked i ≡ Err found
 unfolding cloud_row cells_of
-row-fault file c [] i found is some = absurd (omega (arith, some))
-row-fault file c ((f, leaf) ∷ asked) i found is some = rw (path-fault file c f leaf i found is) refl
+row-fault show file c [] i found is some = absurd (omega (arith, some))
+row-fault show file c ((f, leaf) ∷ asked) i found is some = rw (path-fault file c f leaf i found is) refl
 
 text-none : (row : ℕ → Result (List ℕ) Fault) (i n : ℕ) (found : Fault) → row i ≡ Err found → rows_text row i n ≡ []
 unfolding rows_text
@@ -87,8 +88,8 @@ some-asked fields (f ∷ numbers) some = omega arith
 
 pub rows-none : (file : List ℕ) (s : Selection) (found : Fault) → section_fault file s.cloud.node s.cloud.place ≡ Some found → 0 < length s.numbers → selected_rows file s ≡ []
 rows-none file s found is some =
-    text-none (selected_row file s) s.from s.count found (row-fault file (stated s) (asked_of s.fields s.numbers) s.from found is (some-asked s.fields s.numbers some))
+    text-none (selected_row file s) s.from s.count found (row-fault (show_of s.decimal s.fields) file (stated s) (asked_of s.fields s.numbers) s.from found is (some-asked s.fields s.numbers some))
 
 pub fault-none : (file : List ℕ) (s : Selection) (found : Fault) → section_fault file s.cloud.node s.cloud.place ≡ Some found → 0 < length s.numbers → 0 < s.count → selected_fault file s ≡ Some found
 fault-none file s found is some more =
-    fault-first (selected_row file s) s.from s.count found (row-fault file (stated s) (asked_of s.fields s.numbers) s.from found is (some-asked s.fields s.numbers some)) more
+    fault-first (selected_row file s) s.from s.count found (row-fault (show_of s.decimal s.fields) file (stated s) (asked_of s.fields s.numbers) s.from found is (some-asked s.fields s.numbers some)) more

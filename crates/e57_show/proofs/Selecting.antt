@@ -2,7 +2,7 @@
 use Rattle.std.specs.Prelude.{unwrap_or, nat_lt, nat_le, ◌==◌, if◌then◌else◌, IfSome, option_map, MatchResult}
 use Rattle.std.specs.List.{AllByRecursion, range_with_len, slice_split, position_from, onto_first}
 use Rattle.std.specs.Str.{bytes_eq}
-use Rattle.std.proofs.Common.{◌≡◌, ℕ, zero, suc, ◌+◌, ◌-◌, ◌^◌, ◌<◌, ◌≤◌, Bool, true, false, List, [], ◌∷◌, ◌++◌, length, drop, map, slice_get, slice_index_or, Bor, Option, Some, None, Result, Ok, Err, refl, sym, subst, ap, ◌∙◌, arith, append_assoc}
+use Rattle.std.proofs.Common.{◌≡◌, ℕ, zero, suc, ◌+◌, ◌-◌, ◌^◌, ◌<◌, ◌≤◌, ◌&&◌, Bool, true, false, List, [], ◌∷◌, ◌++◌, length, drop, map, slice_get, slice_index_or, Bor, Option, Some, None, Result, Ok, Err, refl, sym, subst, ap, ◌∙◌, arith, append_assoc}
 use Rattle.std.proofs.lemmas.Bool.{lt-ltb, le-ltb, le-leb, eq-eqb, and_from}
 use Rattle.std.proofs.lemmas.List.{append-nil, drop_all, drop_more, map-id}
 use Rattle.std.proofs.lemmas.List.FromFn.{map-range_with_len_more}
@@ -16,14 +16,19 @@ use Rattle.e57_elements.specs.Lawful.{AreNodes}
 use Rattle.e57_elements.specs.Tree.{Element, preorder}
 use Rattle.e57_elements.specs.declared.tree.RawNode.{RawNode}
 use Rattle.e57_nodes.specs.Shape.{shape_of, node_count}
-use Rattle.e57_nodes.specs.Typed.{typed_fault}
+use Rattle.e57_nodes.specs.Typed.{max_fields, typed_fault}
 use Rattle.e57_nodes.specs.Items.{StatedItem, stated_cloud, stated_blob, stated_items}
 use Rattle.e57_nodes.specs.Places.{places_in}
 use Rattle.e57_nodes.proofs.Laws.Sound.{IsSoundItem, sound_items}
 use Rattle.e57_tree.specs.declared.items.Cloud.{Cloud}
 use Rattle.e57_tree.specs.Held.{clouds_among, clouds_of, cloud_fields}
 use Rattle.e57_file.specs.Opened.{field_number}
-use Rattle.e57_show.specs.Extract.{Asked, Selection, names_in, with_number, by_number, numbers_from, numbers_of, asked_end, asked_count, select_records, select}
+use Rattle.e57_show.specs.Extract.{Asked, Selection, names_in, with_number, by_number, numbers_from, numbers_of, asked_end, asked_count, lacking_from, lacking, is_place, select_range, select_records, select}
+use Rattle.e57_rows.specs.Rows.{field_at, no_field}
+use Rattle.e57_rows.proofs.Held.{all_at}
+use Rattle.std.proofs.lemmas.List.{get_or_default}
+use Rattle.std.proofs.Common.{get_or}
+use Rattle.e57_rows.specs.Shown.{has_decimals}
 use Rattle.e57_show.specs.declared.select.Selected.{Selected}
 use Rattle.e57_show.specs.Extracting.{IsSelected, IsUnselected, LacksName, LacksField}
 
@@ -170,19 +175,23 @@ unfolding select
 no-cloud asked e past = rw (slice_get_past (clouds_of e) asked.cloud past) refl
 
 -- it is, and these are its fields
-pub selects-of : (asked : Asked) (e : Element) (cloud : Cloud) (fields : List Field) → slice_get (clouds_of e) asked.cloud ≡ Some cloud → slice_get (cloud_fields e) asked.cloud ≡ Some fields → select asked e ≡ select_records cloud fields asked.from asked.count (numbers_of fields asked.names)
+pub selects-of : (asked : Asked) (e : Element) (cloud : Cloud) (fields : List Field) → slice_get (clouds_of e) asked.cloud ≡ Some cloud → slice_get (cloud_fields e) asked.cloud ≡ Some fields → select asked e ≡ select_records cloud fields asked (numbers_of fields asked.names)
 unfolding select
 selects-of asked e cloud fields at_cloud at_fields = rw (at_cloud, at_fields) refl
 
-pub no-field : (cloud : Cloud) (fields : List Field) (from j : ℕ) (count : Option ℕ) (numbers : Result (List ℕ) ℕ) → numbers ≡ Err j → select_records cloud fields from count numbers ≡ Err (ask.Field j (length fields))
-no-field cloud fields from j count numbers is = rw is refl
+pub no-field : (cloud : Cloud) (fields : List Field) (asked : Asked) (j : ℕ) (numbers : Result (List ℕ) ℕ) → numbers ≡ Err j → select_records cloud fields asked numbers ≡ Err (ask.Field j (length fields))
+no-field cloud fields asked j numbers is = rw is refl
 
-pub no-range : (cloud : Cloud) (fields : List Field) (from : ℕ) (count : Option ℕ) (given : List ℕ) (numbers : Result (List ℕ) ℕ) → numbers ≡ Ok given → cloud.count < asked_end from count → select_records cloud fields from count numbers ≡ Err (ask.Range (asked_end from count) cloud.count)
-no-range cloud fields from count given numbers is past = rw (is, lt-ltb cloud.count (asked_end from count) past) refl
+pub no-decimal : (cloud : Cloud) (fields : List Field) (asked : Asked) (j : ℕ) (given : List ℕ) (numbers : Result (List ℕ) ℕ) → numbers ≡ Ok given → lacking asked.decimal fields given ≡ Some j → select_records cloud fields asked numbers ≡ Err (ask.Decimal j (length fields))
+no-decimal cloud fields asked j given numbers is lacks = rw is (ap (select_range cloud fields asked given) lacks)
 
-pub all-there : (cloud : Cloud) (fields : List Field) (from : ℕ) (count : Option ℕ) (given : List ℕ) (numbers : Result (List ℕ) ℕ) → numbers ≡ Ok given → asked_end from count ≤ cloud.count
-    → select_records cloud fields from count numbers ≡ Ok (record { cloud = cloud; fields = fields; numbers = given; from = from; count = asked_count cloud.count from count })
-all-there cloud fields from count given numbers is within = rw (is, le-ltb cloud.count (asked_end from count) within) refl
+pub no-range : (cloud : Cloud) (fields : List Field) (asked : Asked) (given : List ℕ) (numbers : Result (List ℕ) ℕ) → numbers ≡ Ok given → lacking asked.decimal fields given ≡ None → cloud.count < asked_end asked.from asked.count
+    → select_records cloud fields asked numbers ≡ Err (ask.Range (asked_end asked.from asked.count) cloud.count)
+no-range cloud fields asked given numbers is none past = rw is (ap (select_range cloud fields asked given) none ∙ rw (lt-ltb cloud.count (asked_end asked.from asked.count) past) refl)
+
+pub all-there : (cloud : Cloud) (fields : List Field) (asked : Asked) (given : List ℕ) (numbers : Result (List ℕ) ℕ) → numbers ≡ Ok given → lacking asked.decimal fields given ≡ None → asked_end asked.from asked.count ≤ cloud.count
+    → select_records cloud fields asked numbers ≡ Ok (record { cloud = cloud; fields = fields; numbers = given; from = asked.from; count = asked_count cloud.count asked.from asked.count; decimal = asked.decimal })
+all-there cloud fields asked given numbers is none within = rw is (ap (select_range cloud fields asked given) none ∙ rw (le-ltb cloud.count (asked_end asked.from asked.count) within) refl)
 
 pub within-cloud : (records from : ℕ) (count : Option ℕ) → asked_end from count ≤ records → from + asked_count records from count ≤ records
 within-cloud records from None within = omega (arith, within)
@@ -219,21 +228,85 @@ field-lacking asked nodes cloud fields fault there lacks = by_names asked.names 
           rw is (lt-ltb j (length names) below),
           λ e node.
               let at = there e node in
-              selects-of asked e cloud fields at.0 at.1 ∙ no-field cloud fields asked.from j asked.count (numbers_of fields asked.names) (ap (λ (o : Option (List (List ℕ))). numbers_of fields o) is ∙ lacking),
+              selects-of asked e cloud fields at.0 at.1 ∙ no-field cloud fields asked j (numbers_of fields asked.names) (ap (λ (o : Option (List (List ℕ))). numbers_of fields o) is ∙ lacking),
         )
 
     by_names : (names : Option (List (List ℕ))) → asked.names ≡ names → LacksField names fields fault → IsUnselected nodes asked fault
     by_names None is same = subst (λ (f : RunFault). IsUnselected nodes asked f) (sym same) tt
     by_names (Some names) is lacks = by_fault names fault is lacks
 
+-- ---- the decimals
+
+lacking-below : (fields : List Field) (k : ℕ) (numbers : List ℕ) (j : ℕ) → lacking_from fields k numbers ≡ Some j → j < k + length numbers
+unfolding lacking_from
+lacking-below fields k [] j is = absurd cc
+lacking-below fields k (f ∷ numbers) j is = by_test (has_decimals (field_at fields f).kind) (λ rest. lacking-below fields (k + 1) numbers j rest) is
+  where
+    by_test : (b : Bool) → (lacking_from fields (k + 1) numbers ≡ Some j → j < k + 1 + length numbers) → (if b then lacking_from fields (k + 1) numbers else Some k) ≡ Some j → j < k + suc (length numbers)
+    by_test true later is = let rest = later is in omega (arith, rest)
+    by_test false later is = let same : k ≡ j = cc in omega (arith, same)
+
+place-of : (fields : List Field) (names : Option (List (List ℕ))) (numbers : List ℕ) (j : ℕ) → length fields ≤ max_fields → numbers_of fields names ≡ Ok numbers → j < length numbers → is_place names j ≡ true
+place-of fields None numbers j few is below =
+    let same : range_with_len 0 (length fields) ≡ numbers = cc in
+    let long : length numbers ≡ length fields = ap (λ (xs : List ℕ). length xs) (sym same) ∙ range-length 0 (length fields) in
+    lt-ltb j max_fields (omega (arith, long, few, below))
+place-of fields (Some names) numbers j few is below = let all = named-all fields 0 names numbers is in let long = all.0 in lt-ltb j (length names) (omega (arith, long, below))
+
+-- a field has none
+pub decimal-lacking : (asked : Asked) (nodes : List RawNode) (cloud : Cloud) (fields : List Field) (numbers : List ℕ) (j : ℕ) → IsThere nodes asked.cloud cloud fields → length fields ≤ max_fields → numbers_of fields asked.names ≡ Ok numbers → lacking asked.decimal fields numbers ≡ Some j → IsUnselected nodes asked (Ask (ask.Decimal j (length fields)))
+decimal-lacking asked nodes cloud fields numbers j there few is lacks = (
+  by_asked asked.decimal lacks,
+  λ e node.
+      let at = there e node in
+      selects-of asked e cloud fields at.0 at.1 ∙ no-decimal cloud fields asked j numbers (numbers_of fields asked.names) is lacks,
+)
+  where
+    by_asked : (b : Bool) → lacking b fields numbers ≡ Some j → (b && is_place asked.names j) ≡ true
+    by_asked false lacks = absurd cc
+    by_asked true lacks = place-of fields asked.names numbers j few is (let low = lacking-below fields 0 numbers j lacks in omega (arith, low))
+
+-- the loop over the asked fields
+pub lacking-next : (fields : List Field) (numbers : List ℕ) (j : ℕ) → j < length numbers → has_decimals (field_at fields (slice_index_or numbers j 0)).kind ≡ true → lacking_from fields j (drop j numbers) ≡ lacking_from fields (j + 1) (drop (j + 1) numbers)
+unfolding lacking_from
+lacking-next fields numbers j below has = rw (drop_more numbers j 0 below) (rw has refl)
+
+pub lacking-here : (fields : List Field) (numbers : List ℕ) (j : ℕ) → j < length numbers → has_decimals (field_at fields (slice_index_or numbers j 0)).kind ≡ false → lacking_from fields j (drop j numbers) ≡ Some j
+unfolding lacking_from
+lacking-here fields numbers j below has = rw (drop_more numbers j 0 below) (rw has refl)
+
+pub lacking-end : (fields : List Field) (numbers : List ℕ) (j : ℕ) → length numbers ≤ j → lacking_from fields j (drop j numbers) ≡ None
+unfolding lacking_from
+lacking-end fields numbers j past = rw (drop_all j numbers past) refl
+
+asked-field : (fields : List Field) (numbers : List ℕ) (j : ℕ) (field : Field) → j < length numbers → AllByRecursion (λ f. f < length fields) numbers → field ≡ get_or fields (get_or numbers j 0) field → field ≡ field_at fields (slice_index_or numbers j 0)
+asked-field fields numbers j field below all is = is ∙ get_or_default fields (get_or numbers j 0) field no_field (all_at (λ f. f < length fields) numbers j 0 below all)
+
+pub lacking-more : (fields : List Field) (numbers : List ℕ) (j : ℕ) (field : Field) (b : Bool) → j < length numbers → AllByRecursion (λ f. f < length fields) numbers → field ≡ get_or fields (get_or numbers j 0) field → b ≡ has_decimals field.kind → b ≡ true
+    → lacking_from fields 0 numbers ≡ lacking_from fields j (drop j numbers) → lacking_from fields 0 numbers ≡ lacking_from fields (j + 1) (drop (j + 1) numbers)
+lacking-more fields numbers j field b below all is tells holds before =
+    before ∙ lacking-next fields numbers j below (ap (λ (x : Field). has_decimals x.kind) (sym (asked-field fields numbers j field below all is)) ∙ sym tells ∙ holds)
+
+pub lacking-found : (fields : List Field) (numbers : List ℕ) (j : ℕ) (field : Field) (b : Bool) → j < length numbers → AllByRecursion (λ f. f < length fields) numbers → field ≡ get_or fields (get_or numbers j 0) field → b ≡ has_decimals field.kind → b ≡ false
+    → lacking_from fields 0 numbers ≡ lacking_from fields j (drop j numbers) → Some j ≡ lacking_from fields 0 numbers
+lacking-found fields numbers j field b below all is tells fails before =
+    sym (before ∙ lacking-here fields numbers j below (ap (λ (x : Field). has_decimals x.kind) (sym (asked-field fields numbers j field below all is)) ∙ sym tells ∙ fails))
+
+pub asked-so : (fields : List Field) (numbers : List ℕ) (decimal b : Bool) (r : Option ℕ) → decimal ≡ b → b ≡ true → r ≡ lacking_from fields 0 numbers → r ≡ lacking decimal fields numbers
+asked-so fields numbers decimal b r same holds is = is ∙ ap (λ (t : Bool). lacking t fields numbers) (sym (same ∙ holds))
+
+-- the numbers of the asked fields are of fields
+pub numbers-below : (fields : List Field) (list : Option (Bor (List ℕ))) (numbers : List ℕ) → 0 < length fields → numbers_of fields (option_map (λ text. names_in text.now) list) ≡ Ok numbers → AllByRecursion (λ f. f < length fields) numbers
+numbers-below fields list numbers some is = (some-numbers fields (option_map (λ text. names_in text.now) list) numbers some (some-listed list) is).1
+
 -- the records aren't there
-pub range-lacking : (asked : Asked) (nodes : List RawNode) (cloud : Cloud) (fields : List Field) (numbers : List ℕ) (end : ℕ) → IsThere nodes asked.cloud cloud fields → numbers_of fields asked.names ≡ Ok numbers → end ≡ asked_end asked.from asked.count → cloud.count < end → IsUnselected nodes asked (Ask (ask.Range end cloud.count))
-range-lacking asked nodes cloud fields numbers end there is same past = (
+pub range-lacking : (asked : Asked) (nodes : List RawNode) (cloud : Cloud) (fields : List Field) (numbers : List ℕ) (end : ℕ) → IsThere nodes asked.cloud cloud fields → numbers_of fields asked.names ≡ Ok numbers → lacking asked.decimal fields numbers ≡ None → end ≡ asked_end asked.from asked.count → cloud.count < end → IsUnselected nodes asked (Ask (ask.Range end cloud.count))
+range-lacking asked nodes cloud fields numbers end there is none same past = (
   and_from (end == asked_end asked.from asked.count) (nat_lt cloud.count end) (eq-eqb end (asked_end asked.from asked.count) same) (lt-ltb cloud.count end past),
   λ e node.
       let at = there e node in
       subst (λ (n : ℕ). select asked e ≡ Err (ask.Range n cloud.count)) (sym same)
-      (selects-of asked e cloud fields at.0 at.1 ∙ no-range cloud fields asked.from asked.count numbers (numbers_of fields asked.names) is (subst (λ (n : ℕ). cloud.count < n) same past)),
+      (selects-of asked e cloud fields at.0 at.1 ∙ no-range cloud fields asked numbers (numbers_of fields asked.names) is none (subst (λ (n : ℕ). cloud.count < n) same past)),
 )
 
 some-same : (x y : List Field) → ◌≡◌ {A = Option (List Field)} (Some x) (Some y) → x ≡ y
@@ -241,8 +314,8 @@ some-same x y is = cc
 
 -- all is there
 pub is-selected : (asked : Asked) (nodes : List RawNode) (s : Selected) (fields : List Field) (list : Option (Bor (List ℕ))) → AreNodes nodes → ((e : Element) → nodes ≡ preorder e → typed_fault (shape_of e) ≡ None) → IsThere nodes asked.cloud s.cloud fields
-    → s.k ≡ asked.cloud → s.from ≡ asked.from → s.count ≡ asked_count s.cloud.count asked.from asked.count → asked.names ≡ option_map (λ text. names_in text.now) list → asked_end asked.from asked.count ≤ s.cloud.count → 0 < length fields → numbers_of fields asked.names ≡ Ok s.numbers.items → IsSelected nodes asked s
-is-selected asked nodes s fields list are typed there is_k is_from is_count is_names within some numbers =
+    → s.k ≡ asked.cloud → s.from ≡ asked.from → s.count ≡ asked_count s.cloud.count asked.from asked.count → s.decimal ≡ asked.decimal → asked.names ≡ option_map (λ text. names_in text.now) list → asked_end asked.from asked.count ≤ s.cloud.count → 0 < length fields → numbers_of fields asked.names ≡ Ok s.numbers.items → lacking asked.decimal fields s.numbers.items ≡ None → IsSelected nodes asked s
+is-selected asked nodes s fields list are typed there is_k is_from is_count is_decimal is_names within some numbers none =
     let of_fields = some-numbers fields asked.names s.numbers.items some (subst (λ (o : Option (List (List ℕ))). IfSome o (λ names. 0 < length names)) (sym is_names) (some-listed list)) numbers in
     record {
       of_cloud = record {
@@ -258,14 +331,14 @@ is-selected asked nodes s fields list are typed there is_k is_from is_count is_n
       };
       selects = λ e same others has.
           let at = there e same in
-          let all = selects-of asked e s.cloud fields at.0 at.1 ∙ all-there s.cloud fields asked.from asked.count s.numbers.items (numbers_of fields asked.names) numbers within in
+          let all = selects-of asked e s.cloud fields at.0 at.1 ∙ all-there s.cloud fields asked s.numbers.items (numbers_of fields asked.names) numbers none within in
           let here : fields ≡ others = some-same fields others (sym at.1 ∙ subst (λ (k : ℕ). slice_get (cloud_fields e) k ≡ Some others) is_k has) in
-          all ∙ parts s fields others asked.from (asked_count s.cloud.count asked.from asked.count) here (sym is_from) (sym is_count);
+          all ∙ parts s fields others asked.from (asked_count s.cloud.count asked.from asked.count) asked.decimal here (sym is_from) (sym is_count) (sym is_decimal);
     }
   where
-    parts : (s : Selected) (a b : List Field) (from count : ℕ) → a ≡ b → from ≡ s.from → count ≡ s.count
-        → ◌≡◌ {A = Result Selection AskFault} (Ok (record { cloud = s.cloud; fields = a; numbers = s.numbers.items; from = from; count = count })) (Ok (record { cloud = s.cloud; fields = b; numbers = s.numbers.items; from = s.from; count = s.count }))
-    parts s a b from count same at_from at_count = rw (same, at_from, at_count) refl
+    parts : (s : Selected) (a b : List Field) (from count : ℕ) (decimal : Bool) → a ≡ b → from ≡ s.from → count ≡ s.count → decimal ≡ s.decimal
+        → ◌≡◌ {A = Result Selection AskFault} (Ok (record { cloud = s.cloud; fields = a; numbers = s.numbers.items; from = from; count = count; decimal = decimal })) (Ok (record { cloud = s.cloud; fields = b; numbers = s.numbers.items; from = s.from; count = s.count; decimal = s.decimal }))
+    parts s a b from count decimal same at_from at_count at_decimal = rw (same, at_from, at_count, at_decimal) refl
 
 -- the numbers of the fields with the names of a list
 pub listed-numbers : {V : Type 0} (items : V → List ℕ) (fields : List Field) (text : List ℕ) (names : List (List ℕ)) (result : Result V RunFault) → names ≡ names_in text

@@ -11,7 +11,9 @@ use Rattle.e57_page.specs.Kept.{AreUnkept}
 use Rattle.e57_page.specs.Pages.{Reading, AsksFor}
 use Rattle.e57_page.specs.XmlSection.{xml_start}
 use Rattle.e57_layout.specs.declared.field.Field.{Field}
+use Rattle.e57_layout.specs.Values.{Value}
 use Rattle.e57_elements.specs.Tree.{Element}
+use Rattle.e57_nodes.specs.Typed.{max_fields}
 use Rattle.e57_nodes.specs.Items.{leaves_of}
 use Rattle.e57_cloud.specs.Cloud.{Leaf, Cloud as StatedCloud}
 use Rattle.e57_cloud.specs.PathItem.{path_item}
@@ -20,7 +22,8 @@ use Rattle.e57_section.specs.Opening.{is_section_kind}
 use Rattle.e57_column.specs.Finding.{is_column_kind}
 use Rattle.e57_tree.specs.declared.items.Cloud.{Cloud}
 use Rattle.e57_tree.specs.Held.{clouds_of, cloud_fields}
-use Rattle.e57_rows.specs.Rows.{asked_of, heading_text, row_of, rows_text, rows_fault}
+use Rattle.e57_rows.specs.Rows.{asked_of, field_at, heading_text, row_of, shown, rows_text, rows_fault}
+use Rattle.e57_rows.specs.Shown.{has_decimals, show_of}
 use Rattle.e57_file.specs.Opened.{IsTreeFault, is_tree_kind, field_number}
 use Rattle.e57_show.specs.declared.ask.RowsAsk.{RowsAsk}
 use Rattle.e57_show.specs.Streaming.{Streamed}
@@ -32,12 +35,14 @@ use Rattle.e57_show.specs.Blob.{HasSoundTree}
 abbrev pub most_asked : ℕ
 most_asked = 2 ^ 40
 
--- The number of a cloud; the paths of fields in the asked order, or all fields; the first record; how many, or all from there.
+-- The number of a cloud; the paths of fields in the asked order, or all fields; the first record; how many, or all from there;
+-- whether scaled integers are asked for as the numbers that they stand for.
 pub record Asked : Type 0 where
   pub cloud : ℕ
   pub names : Option (List (List ℕ))
   pub from : ℕ
   pub count : Option ℕ
+  pub decimal : Bool
 
 -- the names of a list, which commas separate
 abbrev pub names_in : List ℕ → List (List ℕ)
@@ -45,7 +50,7 @@ names_in text = slice_split (λ b. b == 44) text
 
 -- what is asked
 abbrev pub asked_by : RowsAsk → Asked
-asked_by given = record { cloud = given.cloud; names = option_map (λ text. names_in text.now) given.fields; from = given.from; count = given.count }
+asked_by given = record { cloud = given.cloud; names = option_map (λ text. names_in text.now) given.fields; from = given.from; count = given.count; decimal = given.decimal }
 
 -- no number is above the most records
 pub record IsLimited (given : RowsAsk) : Type 0 where
@@ -54,13 +59,15 @@ pub record IsLimited (given : RowsAsk) : Type 0 where
 
 -- ---- what it is of a tree
 
--- A cloud with its fields, the numbers of the asked fields in the asked order, the first record, and how many.
+-- A cloud with its fields, the numbers of the asked fields in the asked order, the first record, how many, and whether scaled
+-- integers are shown as the numbers that they stand for.
 pub record Selection : Type 0 where
   pub cloud : Cloud
   pub fields : List Field
   pub numbers : List ℕ
   pub from : ℕ
   pub count : ℕ
+  pub decimal : Bool
 
 -- a field's number before those of others
 abbrev pub with_number : ℕ → Result (List ℕ) ℕ → Result (List ℕ) ℕ
@@ -92,16 +99,39 @@ abbrev pub asked_count : ℕ → ℕ → Option ℕ → ℕ
 asked_count records from None = records - from
 asked_count records from (Some n) = n
 
--- the asked fields and records of a cloud: each named field has to be there, and then the records
-abbrev pub select_records : Cloud → List Field → ℕ → Option ℕ → Result (List ℕ) ℕ → Result Selection AskFault
-select_records cloud fields from count (Err j) = Err (ask.Field j (length fields))
-select_records cloud fields from count (Ok numbers) =
-    if nat_lt cloud.count (asked_end from count) then Err (ask.Range (asked_end from count) cloud.count)
-    else Ok (record { cloud = cloud; fields = fields; numbers = numbers; from = from; count = asked_count cloud.count from count })
+-- the place in the list, of which this is the part from place j on, of the first field whose items have no decimals
+unfoldable pub lacking_from : List Field → ℕ → List ℕ → Option ℕ
+lacking_from fields j [] = None
+lacking_from fields j (f ∷ numbers) = if has_decimals (field_at fields f).kind then lacking_from fields (j + 1) numbers else Some j
 
--- what is asked of a tree, or the first thing that it doesn't have: the cloud, a field, the records
+-- that of the asked fields, where decimals are asked for
+abbrev pub lacking : Bool → List Field → List ℕ → Option ℕ
+lacking decimal fields numbers = if decimal then lacking_from fields 0 numbers else None
+
+-- the asked records of a cloud, where the asked fields are there
+abbrev pub select_range : Cloud → List Field → Asked → List ℕ → Option ℕ → Result Selection AskFault
+select_range cloud fields asked numbers (Some j) = Err (ask.Decimal j (length fields))
+select_range cloud fields asked numbers None =
+    if nat_lt cloud.count (asked_end asked.from asked.count) then Err (ask.Range (asked_end asked.from asked.count) cloud.count)
+    else
+    Ok
+    (record {
+      cloud = cloud;
+      fields = fields;
+      numbers = numbers;
+      from = asked.from;
+      count = asked_count cloud.count asked.from asked.count;
+      decimal = asked.decimal;
+    })
+
+-- the asked fields and records of a cloud: each named field has to be there, then the decimals, and then the records
+abbrev pub select_records : Cloud → List Field → Asked → Result (List ℕ) ℕ → Result Selection AskFault
+select_records cloud fields asked (Err j) = Err (ask.Field j (length fields))
+select_records cloud fields asked (Ok numbers) = select_range cloud fields asked numbers (lacking asked.decimal fields numbers)
+
+-- what is asked of a tree, or the first thing that it doesn't have: the cloud, a field, a decimal, the records
 abbrev pub select_from : Asked → ℕ → Option Cloud → Option (List Field) → Result Selection AskFault
-select_from asked have (Some cloud) (Some fields) = select_records cloud fields asked.from asked.count (numbers_of fields asked.names)
+select_from asked have (Some cloud) (Some fields) = select_records cloud fields asked (numbers_of fields asked.names)
 select_from asked have _ _ = Err (ask.Cloud asked.cloud have)
 
 unfoldable pub select : Asked → Element → Result Selection AskFault
@@ -121,12 +151,13 @@ LacksAsked asked file why = (tree : Element) × HasSoundTree file tree × (selec
 abbrev pub stated : Selection → StatedCloud
 stated s = record { node = s.cloud.node; offset = s.cloud.place; count = s.cloud.count; leaves = leaves_of s.fields }
 
--- the row of record i, or the fault of the first asked field that has one
-unfoldable pub cloud_row : List ℕ → StatedCloud → List (ℕ × Leaf) → ℕ → Result (List ℕ) Fault
-cloud_row file c asked i = row_of (λ f leaf. path_item file c f leaf i) asked
+-- the row of record i, of items as they are shown, or the fault of the first asked field that has one
+unfoldable pub cloud_row : (ℕ → Value → Value) → List ℕ → StatedCloud → List (ℕ × Leaf) → ℕ → Result (List ℕ) Fault
+cloud_row show file c asked i = row_of (λ f leaf. shown show f (path_item file c f leaf i)) asked
 
+-- with decimals, an item of a scaled field is shown as the text of `item * scale + offset`
 abbrev pub selected_row : List ℕ → Selection → ℕ → Result (List ℕ) Fault
-selected_row file s i = cloud_row file (stated s) (asked_of s.fields s.numbers) i
+selected_row file s i = cloud_row (show_of s.decimal s.fields) file (stated s) (asked_of s.fields s.numbers) i
 
 -- the rows of the asked records, up to the first one with a fault
 abbrev pub selected_rows : List ℕ → Selection → List ℕ
@@ -146,7 +177,12 @@ IsRowsFault asked file found = (s : Selection) × Selects asked file s × (selec
 abbrev pub IsRowsOutput : Asked → List ℕ → List ℕ → Type 0
 IsRowsOutput asked file text = (s : Selection) × Selects asked file s × (text ≡ selected_text file s)
 
--- it is refused by the number that was asked for, of which there are fewer
+-- the place of a field in the list; without a list one that a cloud can have
+abbrev pub is_place : Option (List (List ℕ)) → ℕ → Bool
+is_place None j = nat_lt j max_fields
+is_place (Some names) j = nat_lt j (length names)
+
+-- it is refused by the number that was asked for, of which there are fewer, or by the place of a field without decimals
 abbrev pub is_rows_ask : Asked → AskFault → Bool
 is_rows_ask asked (ask.Cloud k have) = (k == asked.cloud) && nat_le have k
 is_rows_ask asked (ask.Field j have) = is_listed asked.names where
@@ -154,6 +190,7 @@ is_rows_ask asked (ask.Field j have) = is_listed asked.names where
   is_listed None = false
   is_listed (Some names) = nat_lt j (length names)
 is_rows_ask asked (ask.Range end have) = (end == asked_end asked.from asked.count) && nat_lt have end
+is_rows_ask asked (ask.Decimal j have) = asked.decimal && is_place asked.names j
 is_rows_ask asked _ = false
 
 -- a kind of fault that stops the rows: of the cloud's section, or on the way to an item

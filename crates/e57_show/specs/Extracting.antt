@@ -22,7 +22,7 @@ use Rattle.e57_show.specs.Extract.{Asked, Selection, select, numbers_from, is_ro
 
 -- what was looked up, of these fields
 abbrev pub selection_of : Selected → List Field → Selection
-selection_of s fields = record { cloud = s.cloud; fields = fields; numbers = s.numbers.items; from = s.from; count = s.count }
+selection_of s fields = record { cloud = s.cloud; fields = fields; numbers = s.numbers.items; from = s.from; count = s.count; decimal = s.decimal }
 
 -- what is so of the fields of cloud k of the tree with these nodes
 abbrev pub OfFields : List RawNode → ℕ → (List Field → Type 0) → Type 0

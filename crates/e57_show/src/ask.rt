@@ -11,4 +11,6 @@ pub struct RowsAsk<'a> {
     pub from: u64,
     /// How many records; all from the first one on if there is no number.
     pub count: Option<u64>,
+    /// Whether scaled integers are put as the numbers that they stand for, `raw * scale + offset`.
+    pub decimal: bool,
 }

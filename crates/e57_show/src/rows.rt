@@ -24,12 +24,13 @@ use e57_tree::Cloud;
 use std::alloc::Global;
 
 /// Puts rows of text on `out`: the paths of the asked fields of a cloud, and then the items of the asked fields of each asked
-/// record, in the asked order. It asks the source for those pages of the XML section that aren't kept, in ascending order and
+/// record, in the asked order; with `decimal`, a scaled integer as the number that it stands for. It asks the source for those pages of the XML section that aren't kept, in ascending order and
 /// each at most once, and then, if a record is asked for, for pages of the header of the cloud's section and of what lies on
 /// the way to the asked items, and for no other.
 ///
 /// Refuses what `E57::open` refuses; then `Ask` if the file doesn't have what is asked for: `Cloud`, `Field` for the first name
-/// that no field has, by its number in the list, or `Range`, in this order. After these nothing was put. Then the fault of the
+/// that no field has, by its number in the list, `Decimal` for the first asked field of scaled integers that have no decimals, by
+/// its place among the asked ones, or `Range`, in this order. After these nothing was put. Then the fault of the
 /// first asked record that has one, and of that record that of the first asked field that has one; the heading and the rows
 /// before were put. `Source` if the source failed, `Out` if the sink failed, `Memory` if there is none; a prefix of the rows
 /// was put. No number of an ask is above 2^40.
@@ -111,6 +112,7 @@ fn put_records<S: Source, O: Sink>(
         cloud,
         from,
         count,
+        decimal,
         ..
     } = selected;
     if *count == 0 {
@@ -131,6 +133,7 @@ fn put_records<S: Source, O: Sink>(
         fixed,
         fields,
         &selected.numbers,
+        *decimal,
         *from,
         *count,
         pages,

@@ -1,18 +1,20 @@
 //! What is asked of the records of a cloud, looked up in the tree.
 
-ghost use Rattle.std.specs.Prelude.{◌≡◌, ◌≤◌, ℕ, List, length, map, Option, option_map, Ok, IfOk, IfSome, MatchResult};
-ghost use Rattle.std.specs.List.{range_with_len};
+ghost use Rattle.std.specs.Prelude.{◌≡◌, ◌<◌, ◌≤◌, ℕ, List, length, map, Option, option_map, Ok, IfOk, IfSome, MatchResult};
+ghost use Rattle.std.specs.List.{AllByRecursion, range_with_len};
 ghost use Rattle.e57_base.specs.declared.fault.AskFault.TheVariants as AskFault;
 ghost use Rattle.e57_base.specs.declared.fault.RunFault.TheVariants as RunFault;
+ghost use Rattle.e57_layout.specs.Values.{IsValidField};
 ghost use Rattle.e57_nodes.specs.Typed.{max_fields};
 ghost use Rattle.e57_file.specs.Opened.{field_number};
-ghost use Rattle.e57_show.specs.Extract.{IsLimited, asked_by, asked_end, most_asked, names_in, numbers_from, numbers_of};
+ghost use Rattle.e57_show.specs.Extract.{IsLimited, asked_by, asked_end, lacking as lacking_of, most_asked, names_in, numbers_from, numbers_of};
 ghost use Rattle.e57_show.specs.Extracting.{IsSelected, IsUnselected, HasFields, LacksField, LacksName};
 
 use crate::ask::RowsAsk;
 use e57_base::{AskFault, RunFault};
 use e57_file::E57;
 use e57_layout::Field;
+use e57_rows::has_decimals;
 use e57_tree::Cloud;
 use std::alloc::{AllocError, Global};
 
@@ -29,9 +31,11 @@ pub struct Selected {
     pub from: u64,
     /// How many records.
     pub count: u64,
+    /// Whether scaled integers are put as the numbers that they stand for.
+    pub decimal: bool,
 }
 
-/// Looks up what is asked: the cloud, then each field of the list, then the records.
+/// Looks up what is asked: the cloud, then each field of the list, then the decimals of the asked fields, then the records.
 pub fn select(alloc: Global, file: &E57, ask: &RowsAsk<'_>) -> Result<Selected, RunFault>
     requires { IsLimited ask.now }
     ensures { MatchResult result
@@ -44,6 +48,7 @@ pub fn select(alloc: Global, file: &E57, ask: &RowsAsk<'_>) -> Result<Selected, 
         fields: list,
         from,
         count,
+        decimal,
     } = *ask;
     let clouds = file.tree().clouds();
     let have = clouds.len() as u64;
@@ -52,7 +57,11 @@ pub fn select(alloc: Global, file: &E57, ask: &RowsAsk<'_>) -> Result<Selected, 
     }
     let k = asked as usize;
     let cloud = clouds[k];
-    let numbers = field_numbers(alloc, file, k, file.tree().fields(k), list)?;
+    let fields = file.tree().fields(k);
+    let numbers = field_numbers(alloc, file, k, fields, list)?;
+    if let Some(j) = lacking(decimal, fields, &numbers) {
+        return Err(no_decimals(j, fields));
+    }
     let end = past_asked(from, count);
     if cloud.count < end {
         return Err(RunFault::Ask(AskFault::Range {
@@ -66,6 +75,7 @@ pub fn select(alloc: Global, file: &E57, ask: &RowsAsk<'_>) -> Result<Selected, 
         numbers,
         from,
         count: count.unwrap_or(cloud.count - from),
+        decimal,
     })
 }
 
@@ -144,6 +154,33 @@ fn named_numbers(
         }
     }
     Ok(numbers)
+}
+
+/// The place, among the asked fields, of the first one whose items have no decimals, where these are asked for.
+fn lacking(decimal: bool, fields: &[Field], numbers: &[u16]) -> Option<u64>
+    requires valid { AllByRecursion IsValidField fields.now }
+    requires numbers { AllByRecursion (λ f. f < length fields.now) numbers.now }
+    ensures { result ≡ lacking_of decimal fields.now numbers.now }
+{
+    if !decimal {
+        return None;
+    }
+    for (j, f) in numbers.iter().enumerate() {
+        if !has_decimals(&fields[*f as usize]) {
+            return Some(j as u64);
+        }
+    }
+    None
+}
+
+/// The field at place j of the asked ones has no decimals.
+fn no_decimals(j: u64, fields: &[Field]) -> RunFault
+    ensures { result ≡ RunFault.Ask (AskFault.Decimal j (length fields.now)) }
+{
+    RunFault::Ask(AskFault::Decimal {
+        asked: j,
+        have: fields.len() as u64,
+    })
 }
 
 /// No field has name j of the list.

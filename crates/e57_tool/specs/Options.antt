@@ -1,5 +1,5 @@
 -- Options: words `--NAME=VALUE` behind the places of a command, in any order.
-use Rattle.std.specs.Prelude.{ℕ, ◌+◌, Bool, true, ◌&&◌, not, nat_lt, nat_le, nat_eq, if◌then◌else◌, List, [], ◌∷◌, length, drop, Option, Some, None, option_map, IfSome, ◌≤◌, Result, Ok, Err, codes}
+use Rattle.std.specs.Prelude.{ℕ, ◌+◌, Bool, true, false, ◌&&◌, not, nat_lt, nat_le, nat_eq, if◌then◌else◌, List, [], ◌∷◌, length, drop, Option, Some, None, option_map, IfSome, ◌≤◌, Result, Ok, Err, codes}
 use Rattle.std.specs.List.{list_any, starts_with}
 use Rattle.std.specs.Option.{option_map_or, option_and_then, unwrap_or}
 use Rattle.std.specs.Str.{bytes_eq}
@@ -55,32 +55,38 @@ are_distinct (name ∷ others) = is_new name others && are_distinct others
 unfoldable pub names_asked : List ℕ → Option (List (List ℕ))
 names_asked value = if nat_le (length (names_in value)) most_names && are_distinct (names_in value) then Some (names_in value) else None
 
+-- whether decimals are asked for: `yes` is the one value
+abbrev pub decimal_asked : List ℕ → Option Bool
+decimal_asked value = if bytes_eq value (codes "yes") then Some true else None
+
 -- ---- the options of `extract`
 
--- the names of the asked fields, the first record, and how many
+-- the names of the asked fields, the first record, how many, and whether decimals are asked for
 pub record RowsGiven : Type 0 where
   pub names : Option (List (List ℕ))
   pub from : Option ℕ
   pub count : Option ℕ
+  pub decimal : Option Bool
 
 abbrev pub nothing_given : RowsGiven
-nothing_given = record { names = None; from = None; count = None }
+nothing_given = record { names = None; from = None; count = None; decimal = None }
 
--- `--fields=A,B`, `--from=I`, `--count=N`, each once
+-- `--fields=A,B`, `--from=I`, `--count=N`, `--decimal=yes`, each once
 abbrev pub rows_options : List (OptionRow RowsGiven)
 rows_options =
     record { front = codes "--fields="; add = λ value given. given_once given.names (names_asked value) (λ names. record given { names = Some names }) }
     ∷ record { front = codes "--from="; add = λ value given. given_once given.from (number_asked value) (λ n. record given { from = Some n }) }
     ∷ record { front = codes "--count="; add = λ value given. given_once given.count (number_asked value) (λ n. record given { count = Some n }) }
+    ∷ record { front = codes "--decimal="; add = λ value given. given_once given.decimal (decimal_asked value) (λ b. record given { decimal = Some b }) }
     ∷ []
 
 -- what is asked of a cloud: from its first record on, if no other is given
 abbrev pub rows_asked : ℕ → RowsGiven → Asked
-rows_asked cloud given = record { cloud = cloud; names = given.names; from = unwrap_or given.from 0; count = given.count }
+rows_asked cloud given = record { cloud = cloud; names = given.names; from = unwrap_or given.from 0; count = given.count; decimal = unwrap_or given.decimal false }
 
 -- options as what they give
 abbrev pub given_by : RowsOptions → RowsGiven
-given_by options = record { names = option_map (λ text. names_in text.now) options.fields; from = options.from; count = options.count }
+given_by options = record { names = option_map (λ text. names_in text.now) options.fields; from = options.from; count = options.count; decimal = options.decimal }
 
 -- no number is above the most records
 pub record AreLimited (options : RowsOptions) : Type 0 where

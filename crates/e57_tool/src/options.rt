@@ -5,7 +5,7 @@ ghost use Rattle.std.specs.List.{list_any};
 ghost use Rattle.std.specs.Str.{bytes_eq};
 ghost use Rattle.e57_show.specs.Extract.{IsLimited, asked_by, names_in, most_asked};
 ghost use Rattle.e57_tool.specs.Cursor.{unread};
-ghost use Rattle.e57_tool.specs.Options.{AreLimited, are_distinct, given_by, is_new, names_asked, nothing_given, number_asked, rows_asked, rows_options, value_behind, with_option, with_options, given_once};
+ghost use Rattle.e57_tool.specs.Options.{AreLimited, are_distinct, decimal_asked, given_by, is_new, names_asked, nothing_given, number_asked, rows_asked, rows_options, value_behind, with_option, with_options, given_once};
 
 use crate::cursor::{Cursor, WordFault, number_of};
 use e57_show::RowsAsk;
@@ -19,6 +19,8 @@ pub struct RowsOptions<'a> {
     pub from: Option<u64>,
     /// How many records.
     pub count: Option<u64>,
+    /// Whether scaled integers are put as the numbers that they stand for.
+    pub decimal: Option<bool>,
 }
 
 impl<'a> RowsOptions<'a> {
@@ -31,6 +33,7 @@ impl<'a> RowsOptions<'a> {
             fields: None,
             from: None,
             count: None,
+            decimal: None,
         }
     }
 
@@ -45,6 +48,7 @@ impl<'a> RowsOptions<'a> {
             fields: self.fields,
             from: self.from.unwrap_or(0),
             count: self.count,
+            decimal: self.decimal.unwrap_or(false),
         }
     }
 }
@@ -131,6 +135,7 @@ fn with_fields<'a>(given: RowsOptions<'a>, value: &'a str) -> Option<RowsOptions
             fields: Some(list),
             from: given.from,
             count: given.count,
+            decimal: given.decimal,
         }),
         _ => None,
     }
@@ -147,6 +152,7 @@ fn with_from<'a>(given: RowsOptions<'a>, value: &'a str) -> Option<RowsOptions<'
             fields: given.fields,
             from: Some(n),
             count: given.count,
+            decimal: given.decimal,
         }),
         _ => None,
     }
@@ -163,6 +169,31 @@ fn with_count<'a>(given: RowsOptions<'a>, value: &'a str) -> Option<RowsOptions<
             fields: given.fields,
             from: given.from,
             count: Some(n),
+            decimal: given.decimal,
+        }),
+        _ => None,
+    }
+}
+
+// Whether scaled integers are put as the numbers that they stand for: `yes` is the one value.
+fn decimal_asked(value: &str) -> Option<bool>
+    ensures { result ≡ decimal_asked value.now }
+{
+    if value == "yes" { Some(true) } else { None }
+}
+
+// These options, and that scaled integers are put as numbers, if that doesn't stand and the value is `yes`.
+fn with_decimal<'a>(given: RowsOptions<'a>, value: &'a str) -> Option<RowsOptions<'a>>
+    requires { AreLimited given }
+    ensures given { option_map given_by result ≡ given_once (given_by given.entry).decimal (decimal_asked value.now) (λ b. record (given_by given.entry) { decimal = Some b }) }
+    ensures limits { IfSome result AreLimited }
+{
+    match (given.decimal, decimal_asked(value)) {
+        (None, Some(decimal)) => Some(RowsOptions {
+            fields: given.fields,
+            from: given.from,
+            count: given.count,
+            decimal: Some(decimal),
         }),
         _ => None,
     }
@@ -183,6 +214,9 @@ fn with_option<'a>(given: RowsOptions<'a>, word: &'a str) -> Option<RowsOptions<
     }
     if let Some(value) = value_behind("--count=", word) {
         return with_count(given, value);
+    }
+    if let Some(value) = value_behind("--decimal=", word) {
+        return with_decimal(given, value);
     }
     None
 }

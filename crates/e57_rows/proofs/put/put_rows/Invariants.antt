@@ -2,6 +2,7 @@ use Rattle.std.specs.Prelude.{◌≡◌, ◌+◌, ◌-◌, ◌≤◌}
 use Rattle.std.specs.List.{AllByRecursion}
 use Rattle.e57_rows.specs.Rows.{asked_of}
 use Rattle.e57_rows.specs.Putting.{slice_of}
+use Rattle.e57_rows.specs.Shown.{show_of, lines_of}
 use Rattle.e57_rows.specs.Blocks.{AreBlocks, AreOfFile, IsReady}
 use Rattle.e57_rows.proofs.Puts.{PutsTo}
 use Rattle.e57_rows.proofs.put.put_rows.Given as goal
@@ -16,7 +17,7 @@ invariant-loop-at g l = record {
   are : AreBlocks l.section l.fixed (asked_of l.fields l.asked) l.blocks.items;
   ready : AllByRecursion (IsReady l.at) l.blocks.items;
   holds : AreOfFile (g.S.Source.view l.pages.source) l.blocks.items;
-  puts : PutsTo (slice_of l.section l.fixed l.fields l.asked l.from l.count) (l.at - l.from) (g.S.Source.view l.fn.pages.source) (g.S.Source.view l.pages.source) (g.O.Sink.view l.fn.out) (g.O.Sink.view l.out);
+  puts : PutsTo (show_of l.numbers l.fields) (slice_of l.section l.fixed l.fields l.asked l.from l.count) (l.at - l.from) (g.S.Source.view l.fn.pages.source) (g.S.Source.view l.pages.source) (g.O.Sink.view l.fn.out) (g.O.Sink.view l.out);
 }
 
 abbrev pub decreases-loop-at : goal.decreases-loop-at

@@ -2,6 +2,7 @@ use Rattle.std.specs.Prelude.{MatchResult}
 use Rattle.std.specs.List.{AllByRecursion}
 use Rattle.std.proofs.Common.{◌*◌, ◌/◌, ◌<◌, ℕ, List, length, sym, subst, arith}
 use Rattle.e57_base.specs.declared.fault.RunFault.{RunFault}
+use Rattle.e57_rows.specs.Shown.{show_of}
 use Rattle.e57_rows.specs.Putting.{Slice, OnSlice, PutsRows, FailsRows}
 use Rattle.e57_show.specs.Extracting.{selection_of, FailsRecords}
 use Rattle.e57_show.proofs.Records.{records-none, opening-met, opened-met, rows-met, section-lost, rows-put, fixed-in, section-of, given-slice, met-of}
@@ -47,7 +48,7 @@ returns-clause-met g c =
     rows-met s c.in-Ok.section old mid new (omega (arith, some)) c.requires.numbers opens.source.3.same.held
     (section-of s now.kept c.open_section.new.pages.kept (now.length / 1024 * 1020) c.in-Ok.section old mid opens)
     (opened-met s now.kept c.open_section.new.pages.kept (now.length / 1024 * 1020) c.in-Ok.section old mid (omega (arith, some)) sized opens)
-    (subst (λ (a : Slice). Rattle.e57_stream.specs.Asking.AsksMet (OnSlice a) mid new) same (met-of _ mid new (g.O.Sink.view c.args.out.now) (g.O.Sink.view c.put_rows.new.out) c.put_rows.result c.put_rows.ensures.rows))
+    (subst (λ (a : Slice). Rattle.e57_stream.specs.Asking.AsksMet (OnSlice a) mid new) same (met-of _ _ mid new (g.O.Sink.view c.args.out.now) (g.O.Sink.view c.put_rows.new.out) c.put_rows.result c.put_rows.ensures.rows))
 
 pub returns-clause-puts : goal.returns-clause-puts
 returns-clause-puts g c =
@@ -62,4 +63,4 @@ returns-clause-puts g c =
     let same = given-slice s c.in-Ok.section c.args.fixed _ c.requires.fixed c.deref.ensures.value in
     rows-put s c.in-Ok.section old mid new out out' c.put_rows.result opens.source.3.same.held opens.source.3.faults
     (section-of s now.kept c.open_section.new.pages.kept (now.length / 1024 * 1020) c.in-Ok.section old mid opens)
-    (subst (λ (a : Slice). MatchResult c.put_rows.result (λ _. PutsRows a mid new out out') (λ fault. FailsRows a mid new out out' fault)) same c.put_rows.ensures.rows)
+    (subst (λ (a : Slice). MatchResult c.put_rows.result (λ _. PutsRows (show_of s.decimal s.fields) a mid new out out') (λ fault. FailsRows (show_of s.decimal s.fields) a mid new out out' fault)) same c.put_rows.ensures.rows)
