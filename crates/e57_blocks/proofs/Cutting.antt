@@ -21,7 +21,7 @@ use Rattle.e57_column.specs.Reading.{OnRecords, AsksRecords}
 use Rattle.e57_column.specs.Texts.{TooLong, left_over, Leaves, ReadsTexts, StopsTexts}
 use Rattle.e57_blocks.specs.declared.buffer.Got.{Got}
 use Rattle.e57_blocks.specs.Block.{IsKept, AreKept, AreCut}
-use Rattle.e57_blocks.specs.Filling.{PlacedAt, got_of, GetsNot, GetsTexts}
+use Rattle.e57_blocks.specs.Filling.{IsGrown, PlacedAt, got_of, GetsNot, GetsTexts}
 use Rattle.e57_blocks.proofs.Getting.{wanted_all, still_none, still_some, asks_wider, asks_on, long_on, gets_same, size_front, gets_on, gets_not_on}
 use Rattle.e57_base.proofs.Told.{told_all}
 use Rattle.e57_column.proofs.Joining.{placed-is, field-on, stands-on}
@@ -208,6 +208,10 @@ placed_on old mid new first second third i n p q = record {
   met = asks_on old mid new first second i n n (omega arith) p.same p.stands p.met q.met;
   stands = stands-on old mid first second third p.met.asks.same.held p.stands q.stands;
 }
+
+-- there is more room now, as much as the string needs
+pub grown_more : (old mid : SourceView) (first second : State) (i want room more n : ℕ) → room ≤ more → PlacedAt old first i want mid second → TooLong mid second i more n → IsGrown old first i room n
+grown_more old mid first second i want room more n wider p long = inr (long_on old mid first second i room more n p.met.asks.same.held p.same p.stands wider long)
 
 pub texts_on : (old mid new : SourceView) (first second third : State) (i n : ℕ) (got : Got) (bytes ends : List ℕ) → PlacedAt old first i n mid second → GetsTexts mid second i n got bytes ends new third → GetsTexts old first i n got bytes ends new third
 texts_on old mid new first second third i n got bytes ends p g = (gets_on old mid new first second third i n n got (λ k. octets (string_held 0 bytes ends k)) (omega arith) p.same p.stands p.met g.0, g.1)

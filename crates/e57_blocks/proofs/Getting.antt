@@ -21,7 +21,7 @@ use Rattle.e57_blocks.specs.declared.buffer.Got.{Got}
 use Rattle.e57_blocks.specs.declared.buffer.Buffer.{Buffer}
 use Rattle.e57_blocks.specs.declared.buffer.Buffer.TheVariants.{Ints, Bits32, Bits64, Texts}
 use Rattle.e57_blocks.specs.Block.{IsKept, AreInside, item_in}
-use Rattle.e57_blocks.specs.Filling.{PlacedAt, got_of, IsEnd, IsLost, IsStill, Gets, GetsNot}
+use Rattle.e57_blocks.specs.Filling.{PlacedAt, got_of, IsEnd, IsGrown, IsLost, IsStill, Gets, GetsNot}
 use Rattle.e57_column.proofs.Joining.{field-on, same-item, same-records, stands-on, placed-is}
 
 pub wanted_all : (c : State) (i n : ℕ) → placed c ≡ Some i → i + n ≤ c.stream.section.count → wanted c n ≡ n
@@ -110,6 +110,18 @@ long_on old mid first second i room more n held same stands wider t = let high =
   limit = t.limit;
   is = told_back (λ file. column_length file second i ≡ Ok (word n)) (λ file. column_length file first i ≡ Ok (word n)) old mid first second held stands (λ file is. sym (same_length file first second i same) ∙ is) t.is;
 }
+
+pub grown_same : (old : SourceView) (c : State) (i room a b : ℕ) → a ≡ b → IsGrown old c i room b → IsGrown old c i room a
+grown_same old c i room a b same grown = subst (λ (n : ℕ). IsGrown old c i room n) (sym same) grown
+
+pub grown_wider : (old : SourceView) (c : State) (i room more : ℕ) → IsGrown old c i room more → room ≤ more
+grown_wider old c i room more (inl same) = omega (arith, same)
+grown_wider old c i room more (inr long) = let high = long.more in omega (arith, high)
+
+-- the room grew only after the column was placed
+pub grown_on : (old mid : SourceView) (first second : State) (i room more : ℕ) → mid.held ≡ old.held → SameField first second → KeepsStanding old first second → IsGrown mid second i room more → IsGrown old first i room more
+grown_on old mid first second i room more held same stands (inl is) = inl is
+grown_on old mid first second i room more held same stands (inr long) = inr (long_on old mid first second i room room more held same stands (omega arith) long)
 
 lost_on : (old mid new : SourceView) (first second third : State) (i room more : ℕ) (lost : OpenFault) → mid.held ≡ old.held → old.faults ≤ mid.faults → SameField first second → KeepsStanding old first second → room ≤ more → IsLost mid second i more lost new → IsLost old first i room lost new
 lost_on old mid new first second third i room more (lost.Refused found) held rose same stands wider cause = cause

@@ -1,5 +1,5 @@
 -- A block that was filled.
-use Rattle.std.specs.Prelude.{◌≡◌, ℕ, ◌+◌, ◌-◌, ◌<◌, ◌≤◌, ◌⊎◌, true, List, Option, Some, None, IfSome, Ok, Err}
+use Rattle.std.specs.Prelude.{◌≡◌, ℕ, ◌+◌, ◌-◌, ◌<◌, ◌⊎◌, true, List, Option, Some, None, IfSome, Ok, Err}
 use Rattle.std.proofs.Common.{refl, sym, subst, ◌∙◌, arith, inl, inr}
 use Rattle.std.proofs.lemmas.Bool.Decides.{nat_tests}
 use Rattle.e57_base.specs.Source.{SourceView}
@@ -16,7 +16,7 @@ use Rattle.e57_column.specs.Reading.{IsOpened, SameField}
 use Rattle.e57_blocks.specs.declared.buffer.Buffer.{Buffer}
 use Rattle.e57_blocks.specs.declared.buffer.Got.{Got}
 use Rattle.e57_blocks.specs.Block.{Block, IsBlock, Holds, IsFor, IsBehind, IsKnown, AreInside, IsKept, has_record, held_item, item_in, places_of, room_of, first_room}
-use Rattle.e57_blocks.specs.Filling.{OpensBlock, IsNextOf, IsStill, IsEnd, Gets, GetsNot, Fills, FillsNot, most_of}
+use Rattle.e57_blocks.specs.Filling.{OpensBlock, IsGrown, IsNextOf, IsStill, IsEnd, Gets, GetsNot, Fills, FillsNot, most_of}
 use Rattle.e57_blocks.proofs.Getting.{none_inside}
 use Rattle.e57_column.proofs.Joining.{same-item}
 
@@ -69,7 +69,7 @@ each_held : (P : List ℕ → Type 0) (held : Option (List ℕ)) → ((file : Li
 each_held P None each = tt
 each_held P (Some file) each = each file refl
 
-pub fills : (old new : SourceView) (before : Block) (column : State) (buffer : Buffer) (i want : ℕ) (got : Got) → places_of buffer ≡ places_of before.buffer → room_of before.buffer ≤ room_of buffer
+pub fills : (old new : SourceView) (before : Block) (column : State) (buffer : Buffer) (i want : ℕ) (got : Got) → places_of buffer ≡ places_of before.buffer → IsGrown old before.column i (room_of before.buffer) (room_of buffer)
     → Gets old before.column i (most_of before want) got (item_in buffer) new column → Fills old before i want new (filled column buffer i got)
 fills old new before column buffer i want got places room g = record {
   first = refl;
@@ -111,7 +111,7 @@ holds_nothing file column buffer i stands = record { stands = stands; items = λ
 still_is : (column : State) (i : ℕ) → (placed column ≡ None) ⊎ (i ≡ i + 0)
 still_is column i = inr (omega arith)
 
-pub fills_not : (old new : SourceView) (before : Block) (column : State) (buffer : Buffer) (i want : ℕ) (lost : OpenFault) → places_of buffer ≡ places_of before.buffer → room_of before.buffer ≤ room_of buffer
+pub fills_not : (old new : SourceView) (before : Block) (column : State) (buffer : Buffer) (i want : ℕ) (lost : OpenFault) → places_of buffer ≡ places_of before.buffer → IsGrown old before.column i (room_of before.buffer) (room_of buffer)
     → GetsNot old before.column i (most_of before want) (room_of before.buffer) lost new column → FillsNot old before i want lost new (emptied column buffer i)
 fills_not old new before column buffer i want lost places room g = record {
   next = (refl, still_is column i);

@@ -1,3 +1,9 @@
 pub mod Cutting
 pub mod Getting
 pub mod Holding
+pub mod Running
+pub mod Parts
+pub mod Faults
+pub mod Readying
+pub mod Sides
+pub mod Openings

@@ -83,6 +83,10 @@ pub record NeedsMore (old : SourceView) (before : State) (i room : ℕ) : Type 0
   pub n : ℕ
   pub long : TooLong old before i room n
 
+-- The room for strings is as it was; or it is what the string of record i needs, for which it didn't suffice.
+abbrev pub IsGrown : SourceView → State → (i room room' : ℕ) → Type 0
+IsGrown old before i room room' = (room' ≡ room) ⊎ TooLong old before i room room'
+
 -- why nothing was read: the source failed; or there is no memory for a string that needs more
 abbrev pub IsLost : SourceView → State → ℕ → ℕ → OpenFault → SourceView → Type 0
 IsLost old before i room (Refused found) new = ⊥
@@ -125,7 +129,7 @@ pub record Fills (old : SourceView) (before : Block) (i want : ℕ) (new : Sourc
   pub few : after.count ≤ most_of before want
   pub all : after.fault ≡ None → (after.count ≡ most_of before want) ⊎ (kind_of before.column.items ≡ strings)
   pub places : places_of after.buffer ≡ places_of before.buffer
-  pub room : room_of before.buffer ≤ room_of after.buffer
+  pub room : IsGrown old before.column i (room_of before.buffer) (room_of after.buffer)
   pub same : SameField before.column after.column
   pub met : AsksRecords old before.column i (most_of before want) new
   pub holds : IfSome old.held (λ file. Holds file before → Holds file after)
@@ -135,8 +139,51 @@ pub record FillsNot (old : SourceView) (before : Block) (i want : ℕ) (lost : O
   pub next : IsNextOf after i
   pub none : after.count ≡ 0
   pub places : places_of after.buffer ≡ places_of before.buffer
-  pub room : room_of before.buffer ≤ room_of after.buffer
+  pub room : IsGrown old before.column i (room_of before.buffer) (room_of after.buffer)
   pub same : SameField before.column after.column
   pub met : AsksRecords old before.column i (most_of before want) new
   pub holds : IfSome old.held (λ file. Holds file before → Holds file after)
   pub cause : IsLost old before.column i (room_of before.buffer) lost new
+
+-- ---- a block placed anew
+
+-- The column was placed at record i, or this record has a fault.
+pub record Places (old : SourceView) (before : State) (i : ℕ) (fault : Option Fault) (new : SourceView) (after : State) : Type 0 where
+  pub sought : IsEnd old before i fault after
+  pub same : SameField before after
+  pub met : AsksRecords old before i 1 new
+  pub stands : KeepsStanding old before after
+
+-- the source failed
+abbrev pub IsSourceLost : SourceView → OpenFault → SourceView → Type 0
+IsSourceLost old (Refused found) new = ⊥
+IsSourceLost old Source new = Rose old.faults new.faults
+IsSourceLost old Memory new = ⊥
+
+-- The column isn't placed.
+pub record PlacesNone (old : SourceView) (before : State) (i : ℕ) (lost : OpenFault) (new : SourceView) (after : State) : Type 0 where
+  pub nowhere : placed after ≡ None
+  pub same : SameField before after
+  pub met : AsksRecords old before i 1 new
+  pub stands : KeepsStanding old before after
+  pub cause : IsSourceLost old lost new
+
+-- It holds nothing, and record i can be read next, or has the fault that is kept.
+pub record PlacesBlock (old : SourceView) (before : Block) (i : ℕ) (new : SourceView) (after : Block) : Type 0 where
+  pub first : after.first ≡ i
+  pub none : after.count ≡ 0
+  pub at_record : after.fault ≡ None → placed after.column ≡ Some i
+  pub buffer : after.buffer ≡ before.buffer
+  pub same : SameField before.column after.column
+  pub met : AsksRecords old before.column i 1 new
+  pub holds : IfSome old.held (λ file. StandsIn file before.column → Holds file after)
+
+-- It holds nothing, and record i can be read next.
+pub record PlacesNot (old : SourceView) (before : Block) (i : ℕ) (lost : OpenFault) (new : SourceView) (after : Block) : Type 0 where
+  pub next : IsNextOf after i
+  pub none : after.count ≡ 0
+  pub buffer : after.buffer ≡ before.buffer
+  pub same : SameField before.column after.column
+  pub met : AsksRecords old before.column i 1 new
+  pub holds : IfSome old.held (λ file. StandsIn file before.column → Holds file after)
+  pub cause : IsSourceLost old lost new

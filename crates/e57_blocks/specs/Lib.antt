@@ -1,2 +1,4 @@
 pub mod Block
 pub mod Filling
+pub mod Runs
+pub mod Fields

@@ -1,18 +1,21 @@
 //! Items of one field, read ahead.
 
-ghost use Rattle.std.specs.Prelude.{◌≡◌, ◌+◌, ◌-◌, ◌*◌, ◌/◌, ◌<◌, ◌≤◌, true, length, IfOk, IfSome, MatchResult};
+ghost use Rattle.std.specs.Prelude.{◌≡◌, ℕ, ◌+◌, ◌-◌, ◌*◌, ◌/◌, ◌^◌, ◌<◌, ◌≤◌, true, None, length, get_or, take, drop, IfOk, IfSome, IsOk, MatchResult};
 ghost use Rattle.e57_base.specs.Source.{page_length};
 ghost use Rattle.e57_page.specs.Place.{payload_length};
 ghost use Rattle.e57_layout.specs.Values.{IsValidField};
+ghost use Rattle.e57_layout.specs.Items.{AreItems};
 ghost use Rattle.e57_section.specs.Opening.{LiesIn};
 ghost use Rattle.e57_ahead.specs.Counting.{IsWidth};
 ghost use Rattle.e57_texts.specs.Reading.{begin_of, end_of, string_held};
 ghost use Rattle.e57_column.specs.Column.{kind_of};
+ghost use Rattle.e57_column.specs.Reading.{is_quiet};
 ghost use Rattle.e57_blocks.specs.Block.{held_item, has_record, item_value, IsKept, IsOfKind, IsKnown};
-ghost use Rattle.e57_blocks.specs.Filling.{OpensBlock, IsNextOf, Fills, FillsNot, most_places};
+ghost use Rattle.e57_blocks.specs.Filling.{OpensBlock, IsNextOf, Fills, FillsNot, PlacesBlock, PlacesNot, most_places};
+ghost use Rattle.e57_blocks.specs.Runs.{run_values, held_values, HasRecords, IsRunInside, IsRunOf};
 
 use crate::buffer::{Buffer, Texts, new_buffer};
-use crate::read::read_block;
+use crate::read::{place_anew, read_block};
 use e57_base::{Fault, OpenFault, Source};
 use e57_column::Column;
 use e57_layout::{Field, Fixed, Section};
@@ -55,6 +58,23 @@ pub enum Item<'a> {
     Word64(u64),
     /// The bytes of a string.
     Text(&'a [u8]),
+}
+
+/// Items of records in a row.
+#[derive(Clone, Copy, Debug, PartialEq, Eq)]
+pub enum Run<'a> {
+    /// Integers, scaled or not.
+    Ints(&'a [i64]),
+    /// Floating point numbers of 32 bits, as words.
+    Bits32(&'a [u32]),
+    /// Floating point numbers of 64 bits, as words.
+    Bits64(&'a [u64]),
+    /// Strings, one behind another in `bytes`: the first one begins at `begin`, and each ends at its end.
+    Texts {
+        bytes: &'a [u8],
+        begin: usize,
+        ends: &'a [u64],
+    },
 }
 
 impl FieldBlock {
@@ -130,6 +150,35 @@ impl FieldBlock {
         }
     }
 
+    /// Places the block anew at record `i`, also past a fault, or behind the last record, if `i` is the number of records. What it
+    /// held is gone. Record `i` is the one that is read next, or it has a fault: that isn't answered but kept.
+    ///
+    /// `Source` says that the source failed. Record `i` can be read next then, too. It takes no memory.
+    pub fn seek<S: Source>(&mut self, pages: &mut Pages<S>, i: u64) -> Result<(), OpenFault>
+        requires lies { LiesIn self.old.column.stream.section (pages.old.length / page_length * payload_length) }
+        requires within { i ≤ self.old.column.stream.section.count }
+        ensures length { pages.new.length ≡ pages.old.length }
+        ensures header { pages.new.header ≡ pages.old.header }
+        ensures quiet { is_quiet self.old.column i ≡ true → IsOk result × (self.new.fault ≡ None) × (pages.new ≡ pages.old) }
+        ensures places { MatchResult result
+            (λ _. PlacesBlock (S.view pages.old.source) self.old i (S.view pages.new.source) self.new)
+            (λ lost. PlacesNot (S.view pages.old.source) self.old i lost (S.view pages.new.source) self.new) }
+    {
+        let answer = place_anew(&mut self.column, pages, i);
+        self.first = i;
+        self.count = 0;
+        match answer {
+            Ok(fault) => {
+                self.fault = fault;
+                Ok(())
+            }
+            Err(lost) => {
+                self.fault = None;
+                Err(lost)
+            }
+        }
+    }
+
     /// The number of the first record whose item is held.
     pub fn first(&self) -> u64
         ensures { result ≡ self.now.first }
@@ -175,6 +224,54 @@ impl FieldBlock {
             Buffer::Texts(texts) => Item::Text(text(texts, k)),
         }
     }
+
+    /// The items of the `n` records from record `i` on, which are held. Integers are within the limits of their field, words have
+    /// its width, and strings have at most 2^24 bytes.
+    pub fn run(&self, i: u64, n: usize) -> Run<'_>
+        requires { HasRecords i n self.now }
+        ensures values { run_values result ≡ held_values self.now i n }
+        ensures of_kind { IsRunOf (kind_of self.now.column.items) result }
+        ensures within { AreItems (kind_of self.now.column.items) (run_values result) }
+        ensures inside { IsRunInside result }
+    {
+        let k = (i - self.first) as usize;
+        match &self.buffer {
+            Buffer::Ints(items) => Run::Ints(&items[k..k + n]),
+            Buffer::Bits32(items) => Run::Bits32(part32(items, k, n)),
+            Buffer::Bits64(items) => Run::Bits64(part64(items, k, n)),
+            Buffer::Texts(texts) => Run::Texts {
+                bytes: &texts.bytes,
+                begin: begin_at(&texts.ends, k),
+                ends: &texts.ends[k..k + n],
+            },
+        }
+    }
+}
+
+/// The `n` words from word `k` on.
+fn part32(items: &[u32], k: usize, n: usize) -> &[u32]
+    requires { k + n ≤ length items.now }
+    ensures part { result.now ≡ take n (drop k items.now) }
+    ensures small { (j : ℕ) → get_or items.now j 0 < 2 ^ 32 }
+{
+    &items[k..k + n]
+}
+
+/// The `n` words from word `k` on.
+fn part64(items: &[u64], k: usize, n: usize) -> &[u64]
+    requires { k + n ≤ length items.now }
+    ensures part { result.now ≡ take n (drop k items.now) }
+    ensures small { (j : ℕ) → get_or items.now j 0 < 2 ^ 64 }
+{
+    &items[k..k + n]
+}
+
+/// Where string `k` begins.
+fn begin_at(ends: &[u64], k: usize) -> usize
+    requires { k ≤ length ends.now }
+    ensures { result ≡ begin_of 0 ends.now k }
+{
+    if k == 0 { 0 } else { ends[k - 1] as usize }
 }
 
 /// String `k`.

@@ -1,18 +1,18 @@
 //! Items read into a buffer.
 
-ghost use Rattle.std.specs.Prelude.{◌≡◌, ◌+◌, ◌*◌, ◌/◌, ◌<◌, ◌≤◌, min, length, get_or, pos, Some, MatchResult};
+ghost use Rattle.std.specs.Prelude.{◌≡◌, ◌+◌, ◌*◌, ◌/◌, ◌<◌, ◌≤◌, min, true, length, get_or, pos, None, Some, Ok, MatchResult};
 ghost use Rattle.e57_base.specs.Source.{page_length};
 ghost use Rattle.e57_page.specs.Place.{payload_length};
 ghost use Rattle.e57_layout.specs.Values.{ItemKind, whole, word};
 ghost use Rattle.e57_section.specs.Opening.{LiesIn};
 ghost use Rattle.e57_column.specs.Column.{kind_of, placed};
-ghost use Rattle.e57_column.specs.Reading.{SeeksNot, AreWhole};
+ghost use Rattle.e57_column.specs.Reading.{SeeksNot, AreWhole, is_quiet};
 ghost use Rattle.e57_blocks.specs.Block.{item_in, places_of, room_of, IsFor, AreInside};
-ghost use Rattle.e57_blocks.specs.Filling.{Gets, GetsNot, IsStill, PlacedAt, got_of};
+ghost use Rattle.e57_blocks.specs.Filling.{Gets, GetsNot, IsGrown, IsStill, PlacedAt, Places, PlacesNone, got_of};
 
 use crate::buffer::{Buffer, Got, places};
 use crate::texts::read_texts;
-use e57_base::{OpenFault, ReadFault, Source};
+use e57_base::{Fault, OpenFault, ReadFault, Source};
 use e57_column::Column;
 use e57_page::Pages;
 
@@ -35,7 +35,7 @@ pub fn read_block<S: Source>(
     ensures header { pages.new.header ≡ pages.old.header }
     ensures kind { IsFor buffer.new (kind_of column.old.items) }
     ensures places { places_of buffer.new ≡ places_of buffer.old }
-    ensures room { room_of buffer.old ≤ room_of buffer.new }
+    ensures room { IsGrown (S.view pages.old.source) column.old i (room_of buffer.old) (room_of buffer.new) }
     ensures gets { MatchResult result
         (λ got. Gets (S.view pages.old.source) column.old i (min want (places_of buffer.old)) got (item_in buffer.new) (S.view pages.new.source) column.new × AreInside got.count buffer.new)
         (λ lost. GetsNot (S.view pages.old.source) column.old i (min want (places_of buffer.old)) (room_of buffer.old) lost (S.view pages.new.source) column.new) }
@@ -71,6 +71,28 @@ fn place<S: Source>(column: &mut Column, pages: &mut Pages<S>, i: u64) -> Result
     column.seek(pages, i)
 }
 
+/// Places the column at record `i` anew, or answers the fault that this record has.
+pub fn place_anew<S: Source>(
+    column: &mut Column,
+    pages: &mut Pages<S>,
+    i: u64,
+) -> Result<Option<Fault>, OpenFault>
+    requires lies { LiesIn column.old.stream.section (pages.old.length / page_length * payload_length) }
+    requires within { i ≤ column.old.stream.section.count }
+    ensures length { pages.new.length ≡ pages.old.length }
+    ensures header { pages.new.header ≡ pages.old.header }
+    ensures quiet { is_quiet column.old i ≡ true → (result ≡ Ok None) × (pages.new ≡ pages.old) }
+    ensures places { MatchResult result
+        (λ fault. Places (S.view pages.old.source) column.old i fault (S.view pages.new.source) column.new)
+        (λ lost. PlacesNone (S.view pages.old.source) column.old i lost (S.view pages.new.source) column.new) }
+{
+    match column.seek(pages, i) {
+        Ok(()) => Ok(None),
+        Err(ReadFault::Refused(fault)) => Ok(Some(fault)),
+        Err(ReadFault::Source) => Err(OpenFault::Source),
+    }
+}
+
 /// What was read before a stop.
 pub fn got(count: usize, fault: ReadFault) -> Result<Got, OpenFault>
     ensures { result ≡ got_of count fault }
@@ -85,7 +107,7 @@ pub fn got(count: usize, fault: ReadFault) -> Result<Got, OpenFault>
 }
 
 /// The smaller of the two.
-fn fewer(a: usize, b: usize) -> usize
+pub fn fewer(a: usize, b: usize) -> usize
     ensures { result ≡ min a b }
 {
     if a < b { a } else { b }

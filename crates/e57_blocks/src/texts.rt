@@ -6,7 +6,7 @@ ghost use Rattle.e57_page.specs.Place.{payload_length};
 ghost use Rattle.e57_layout.specs.Values.{ItemKind};
 ghost use Rattle.e57_section.specs.Opening.{LiesIn};
 ghost use Rattle.e57_column.specs.Column.{kind_of, placed};
-ghost use Rattle.e57_blocks.specs.Filling.{GetsTexts, GetsNot, Tries};
+ghost use Rattle.e57_blocks.specs.Filling.{GetsTexts, GetsNot, IsGrown, Tries};
 
 use crate::buffer::Got;
 use crate::read::got;
@@ -42,7 +42,7 @@ pub fn read_texts<S: Source>(
     ensures length { pages.new.length ≡ pages.old.length }
     ensures header { pages.new.header ≡ pages.old.header }
     ensures places { length ends.new ≡ length ends.old }
-    ensures room { length bytes.old.items ≤ length bytes.new.items }
+    ensures room { IsGrown (S.view pages.old.source) column.old i (length bytes.old.items) (length bytes.new.items) }
     ensures gets { MatchResult result
         (λ got. GetsTexts (S.view pages.old.source) column.old i want got bytes.new.items ends.new (S.view pages.new.source) column.new)
         (λ lost. GetsNot (S.view pages.old.source) column.old i want (length bytes.old.items) lost (S.view pages.new.source) column.new) }

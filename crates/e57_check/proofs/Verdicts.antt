@@ -1,5 +1,5 @@
 -- The verdict on an open file: its pages, its tree, its clouds and blobs.
-use Rattle.std.specs.Prelude.{◌≡◌, ℕ, zero, suc, ◌+◌, ◌/◌, ◌<◌, ◌≤◌, min, List, length, Option, Some, None, IfSome, Result, Ok, Err, MatchResult}
+use Rattle.std.specs.Prelude.{◌≡◌, ℕ, zero, suc, ◌+◌, ◌/◌, ◌<◌, ◌≤◌, min, List, length, Option, Some, None, IfSome}
 use Rattle.std.specs.List.{AllByRecursion, range_with_len}
 use Rattle.std.specs.Option.{option_or}
 use Rattle.std.proofs.Common.{sym, subst, ap, ◌∙◌, arith, inl, inr, ⊎_elim, zero-add}
@@ -31,7 +31,7 @@ use Rattle.e57_verdict.specs.Verdict.{all_pages_fault, fault_before_text, fault_
 use Rattle.e57_verdict.proofs.Laws.Opening.{before-opening, before-section}
 use Rattle.e57_check.specs.Asking.{AsksWhere}
 use Rattle.e57_check.proofs.AskingLaws.{asks_where_on, asks_anywhere, unkept_pages}
-use Rattle.e57_check.specs.Checking.{Accepts, IsRejection, Rejects, Counts, JudgesThings, RefusesThings}
+use Rattle.e57_check.specs.Checking.{HasSoundNodes, IsRejection, Judges, Rejects, Counts, JudgesThings, RefusesThings}
 use Rattle.e57_check.specs.declared.summary.Summary.{Summary}
 
 -- ---- an open file
@@ -157,18 +157,29 @@ same-counts tree s counts =
     ∙ ap (λ (n : ℕ). accepted (cloud_count (stated_items (shape_of tree))) n s.records) counts.blobs
     ∙ ap (λ (n : ℕ). accepted (cloud_count (stated_items (shape_of tree))) (blob_count (stated_items (shape_of tree))) n) counts.records
 
-pub accepts : (count : ℕ) (old mid new : SourceView) (nodes : List RawNode) (s : Summary) → HasFile count old nodes mid → ((e : Element) → nodes ≡ preorder e → JudgesThings count mid e s new) → Accepts count old s new
-accepts count old mid new nodes s file judges = record {
-  source = asks_where_on (λ file. Unit {0}) count old mid new file.source (judges file.are.tree file.are.in_preorder).none.source;
-  verdict = told old.held file.before file.has (λ e same. told_here (λ bytes. things_fault bytes (things_in e) ≡ None) mid.held old.held (sym file.source.asks.same.held) (judges e same).none.sound);
-}
+pub judges : (count : ℕ) (old mid new : SourceView) (nodes : List RawNode) (s : Summary) → HasFile count old nodes mid → ((e : Element) → nodes ≡ preorder e → JudgesThings count mid e s new) → Judges count old nodes s new
+judges count old mid new nodes s file judged =
+    let none = λ (e : Element) (same : nodes ≡ preorder e). told_here (λ bytes. things_fault bytes (things_in e) ≡ None) mid.held old.held (sym file.source.asks.same.held) (judged e same).none.sound in
+    record {
+      accepts = record { source = asks_where_on (λ file. Unit {0}) count old mid new file.source (judged file.are.tree file.are.in_preorder).none.source; verdict = told old.held file.before file.has none };
+      file = sound old.held file.before file.has none;
+    }
   where
+    sound : (held : Option (List ℕ)) → IfSome held IsBefore → IfSome held (λ bytes. HasNodes bytes nodes) → ((e : Element) → nodes ≡ preorder e → IfSome held (λ bytes. things_fault bytes (things_in e) ≡ None)) → IfSome held (λ bytes. HasSoundNodes bytes nodes)
+    sound None before has none = tt
+    sound (Some bytes) before has none = record {
+      tree = has.tree;
+      in_preorder = has.in_preorder;
+      sound = record { has_tree = has-tree bytes has.tree before has.has; sound = things-after bytes has.tree None has.typed (none has.tree has.in_preorder) };
+      has = has;
+    }
+
     told : (held : Option (List ℕ)) → IfSome held IsBefore → IfSome held (λ bytes. HasNodes bytes nodes) → ((e : Element) → nodes ≡ preorder e → IfSome held (λ bytes. things_fault bytes (things_in e) ≡ None)) → IfSome held (λ bytes. IsVerdict bytes (accepted s.clouds s.blobs s.records))
     told None before has none = tt
     told (Some bytes) before has none = (
       has.tree,
       record { has_tree = has-tree bytes has.tree before has.has; sound = things-after bytes has.tree None has.typed (none has.tree has.in_preorder) },
-      same-counts has.tree s (judges has.tree has.in_preorder).counts,
+      same-counts has.tree s (judged has.tree has.in_preorder).counts,
     )
 
 pub things-lost : (count : ℕ) (old mid new : SourceView) (nodes : List RawNode) (found : OpenFault) → HasFile count old nodes mid → ((e : Element) → nodes ≡ preorder e → RefusesThings count mid e found new) → Rejects count old found new
@@ -185,8 +196,3 @@ things-lost count old mid new nodes found file lost = record {
     by-fault (Refused f) lost = told f old.held file.before file.has (λ e same. told_here (λ bytes. things_fault bytes (things_in e) ≡ Some f) mid.held old.held (sym file.source.asks.same.held) (lost e same).cause)
     by-fault Source lost = rose_before old.faults mid.faults new.faults file.source.asks.faults (lost file.are.tree file.are.in_preorder).cause
     by-fault Memory lost = tt
-
-pub verdict-of : (count : ℕ) (old mid new : SourceView) (nodes : List RawNode) (result : Result Summary OpenFault) → HasFile count old nodes mid → ((e : Element) → nodes ≡ preorder e → MatchResult result (λ s. JudgesThings count mid e s new) (λ found. RefusesThings count mid e found new))
-    → MatchResult result (λ s. Accepts count old s new) (λ found. Rejects count old found new)
-verdict-of count old mid new nodes (Ok s) file judges = accepts count old mid new nodes s file judges
-verdict-of count old mid new nodes (Err found) file lost = things-lost count old mid new nodes found file lost

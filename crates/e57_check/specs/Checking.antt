@@ -1,10 +1,12 @@
 -- The verdict on an open file: what `check` answers, and what it does to the source.
-use Rattle.std.specs.Prelude.{◌≡◌, ℕ, ◌+◌, ◌^◌, ◌<◌, ◌≤◌, length, IfSome}
+use Rattle.std.specs.Prelude.{◌≡◌, ℕ, ◌+◌, ◌^◌, ◌<◌, ◌≤◌, List, length, IfSome}
 use Rattle.e57_base.specs.Count.{Rose}
 use Rattle.e57_base.specs.Source.{SourceView}
 use Rattle.e57_base.specs.declared.fault.OpenFault.{OpenFault}
 use Rattle.e57_base.specs.declared.fault.OpenFault.TheVariants.{Refused, Source, Memory}
-use Rattle.e57_elements.specs.Tree.{Element}
+use Rattle.e57_elements.specs.Tree.{Element, preorder}
+use Rattle.e57_elements.specs.declared.tree.RawNode.{RawNode}
+use Rattle.e57_file.specs.Opened.{HasNodes}
 use Rattle.e57_nodes.specs.Shape.{shape_of}
 use Rattle.e57_nodes.specs.Items.{stated_items, leaves_of}
 use Rattle.e57_cloud.specs.Cloud.{cloud_fault}
@@ -13,7 +15,7 @@ use Rattle.e57_tree.specs.declared.items.Item.{Item}
 use Rattle.e57_tree.specs.declared.items.Item.TheVariants as item
 use Rattle.e57_tree.specs.Held.{clouds_of, blobs_of, cloud_in, blob_in, fields_in}
 use Rattle.e57_verdict.specs.Things.{Thing, cloud_thing, blob_thing, thing_fault, things_in, things_fault, cloud_count, blob_count, record_count}
-use Rattle.e57_verdict.specs.Verdict.{IsVerdict, accepted, refused}
+use Rattle.e57_verdict.specs.Verdict.{IsSoundFile, IsVerdict, accepted, refused}
 use Rattle.e57_check.specs.Asking.{AsksWhere}
 use Rattle.e57_check.specs.Clouds.{HasNone, Refuses, cloud_of}
 use Rattle.e57_check.specs.declared.summary.Summary.{Summary}
@@ -22,6 +24,18 @@ use Rattle.e57_check.specs.declared.summary.Summary.{Summary}
 pub record Accepts (count : ℕ) (old : SourceView) (summary : Summary) (new : SourceView) : Type 0 where
   pub source : AsksWhere (λ file. Unit {0}) count old new
   pub verdict : IfSome old.held (λ file. IsVerdict file (accepted summary.clouds summary.blobs summary.records))
+
+-- The file has no fault, and these are the nodes of its tree.
+pub record HasSoundNodes (file : List ℕ) (nodes : List RawNode) : Type 0 where
+  pub tree : Element
+  pub in_preorder : nodes ≡ preorder tree
+  pub sound : IsSoundFile file tree
+  pub has : HasNodes file nodes
+
+-- The file is accepted, with these clouds, blobs and records, and these are the nodes of its tree.
+pub record Judges (count : ℕ) (old : SourceView) (nodes : List RawNode) (summary : Summary) (new : SourceView) : Type 0 where
+  pub accepts : Accepts count old summary new
+  pub file : IfSome old.held (λ file. HasSoundNodes file nodes)
 
 -- why it isn't: the verdict names this fault, the source failed, or memory ran out
 abbrev pub IsRejection : SourceView → OpenFault → SourceView → Type 0

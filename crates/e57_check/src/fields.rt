@@ -12,7 +12,7 @@ ghost use Rattle.e57_check.specs.Starts.{IsField, IsWidth};
 ghost use Rattle.e57_check.specs.Judging.{AllAt, OpensColumns, GivesUp, JudgesBlock, ReadsNoRow, IsNoRefusal};
 
 use crate::block::Block;
-use crate::judge::{Judge, open_column};
+use crate::column::{Judge, open_column};
 use crate::row::read_row;
 use e57_base::{Fault, OpenFault, Source};
 use e57_layout::{Field, FieldKind, Fixed, Section};

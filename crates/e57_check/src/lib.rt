@@ -5,9 +5,9 @@
 mod block;
 mod body;
 mod cloud;
+mod column;
 mod fields;
 mod item;
-mod judge;
 mod packets;
 mod row;
 mod starts;
@@ -16,4 +16,4 @@ mod summary;
 mod verdict;
 
 pub use summary::Summary;
-pub use verdict::check;
+pub use verdict::{check, judge};

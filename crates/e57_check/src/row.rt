@@ -7,7 +7,7 @@ ghost use Rattle.e57_section.specs.Opening.{LiesIn};
 ghost use Rattle.e57_check.specs.Judging.{AllAt, ReadsRow, ReadsNoRow, stopped_row};
 
 use crate::block::Block;
-use crate::judge::{Judge, read_block};
+use crate::column::{Judge, read_block};
 use e57_base::{Fault, OpenFault, Source};
 use e57_layout::Section;
 use e57_page::Pages;

@@ -3,7 +3,7 @@
 ghost use Rattle.std.specs.Prelude.{◌≡◌, ◌*◌, ◌/◌, MatchResult};
 ghost use Rattle.e57_base.specs.Source.{page_length};
 ghost use Rattle.e57_elements.specs.Tree.{Element, preorder};
-ghost use Rattle.e57_check.specs.Checking.{Accepts, Rejects, JudgesThings, RefusesThings};
+ghost use Rattle.e57_check.specs.Checking.{Accepts, Judges, Rejects, JudgesThings, RefusesThings};
 
 use crate::item::judge_item;
 use crate::summary::Summary;
@@ -29,6 +29,21 @@ pub fn check<S: Source>(alloc: Global, pages: &mut Pages<S>) -> Result<Summary, 
         (λ summary. Accepts count (S.view pages.old.source) summary (S.view pages.new.source))
         (λ found. Rejects count (S.view pages.old.source) found (S.view pages.new.source)) }
 {
+    match judge(alloc, pages) {
+        Ok((_file, summary)) => Ok(summary),
+        Err(found) => Err(found),
+    }
+}
+
+/// The verdict on an open file, as `check` gives it, and with it the file's element tree, for who goes on reading an accepted
+/// file. Refuses what `check` refuses, and takes the same memory.
+pub fn judge<S: Source>(alloc: Global, pages: &mut Pages<S>) -> Result<(E57, Summary), OpenFault>
+    ensures length { pages.new.length ≡ pages.old.length }
+    ensures header { pages.new.header ≡ pages.old.header }
+    ensures verdict { let count = pages.old.length / page_length in MatchResult result
+        (λ judged. Judges count (S.view pages.old.source) judged.0 judged.1 (S.view pages.new.source))
+        (λ found. Rejects count (S.view pages.old.source) found (S.view pages.new.source)) }
+{
     let _header = pages.header();
     let _size = pages.logical_len();
     if let Err(fault) = pages.scan() {
@@ -39,7 +54,10 @@ pub fn check<S: Source>(alloc: Global, pages: &mut Pages<S>) -> Result<Summary, 
         Err(fault) => return Err(fault),
     };
     let _raw = file.tree().raw();
-    judge_items(alloc, &file, pages)
+    match judge_items(alloc, &file, pages) {
+        Ok(summary) => Ok((file, summary)),
+        Err(found) => Err(found),
+    }
 }
 
 /// Judges the clouds and blobs of an opened file in document order, and counts them.

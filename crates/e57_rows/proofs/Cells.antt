@@ -9,12 +9,13 @@ use Rattle.e57_column.specs.Column.{kind_of}
 use Rattle.e57_blocks.specs.declared.block.Item.{Item}
 use Rattle.e57_blocks.specs.Block.{Block, held_item, item_value, IsOfKind}
 use Rattle.e57_rows.specs.Cells.{cell, item_text}
-use Rattle.e57_rows.specs.Rows.{field_at, no_field}
+use Rattle.e57_blocks.specs.Fields.{field_at, no_field}
+use Rattle.e57_blocks.proofs.Parts.{all_at, map_more}
 use Rattle.e57_rows.specs.Blocks.{cell_at}
 use Rattle.e57_rows.specs.Shown.{as_it_is, on_line}
-use Rattle.e57_rows.specs.Lined.{IsFor, AreFor, AreShownBy, IsOnLine, line_text}
+use Rattle.e57_rows.specs.Lined.{AreShownBy, line_text}
 use Rattle.e57_rows.specs.Writing.{InRow}
-use Rattle.e57_rows.proofs.Held.{all_at, map_more, text_cell}
+use Rattle.e57_rows.proofs.Held.{text_cell}
 use Rattle.e57_rows.proofs.Lines.{line_cell, shown_at}
 use Rattle.e57_layout.specs.Values.{Value}
 use Rattle.e57_decimal.specs.Scaling.{Line}

@@ -1,30 +1,17 @@
 -- Blocks that hold records, and the rows of these.
-use Rattle.std.specs.Prelude.{◌≡◌, ℕ, zero, suc, ◌+◌, ◌<◌, true, List, [], ◌∷◌, ◌++◌, map, length, take, get_or}
+use Rattle.std.specs.Prelude.{◌≡◌, ℕ, zero, suc, ◌+◌, ◌<◌, true, List, ◌++◌}
 use Rattle.std.specs.List.{AllByRecursion}
 use Rattle.std.proofs.Common.{refl, sym, ap, ◌∙◌, arith, add-zero, append_assoc}
-use Rattle.std.proofs.lemmas.List.{append-nil, map-append, take_more}
+use Rattle.std.proofs.lemmas.List.{append-nil}
 use Rattle.std.proofs.lemmas.Bool.Decides.{nat_tests}
 use Rattle.e57_layout.specs.Values.{ItemKind, Value}
 use Rattle.e57_blocks.specs.declared.block.Item.{Item}
 use Rattle.e57_blocks.specs.declared.block.Item.TheVariants as an_item
 use Rattle.e57_blocks.specs.Block.{Block, has_record, item_value, IsOfKind}
 use Rattle.e57_rows.specs.Cells.{cell, item_text}
-use Rattle.e57_rows.specs.Blocks.{HasRecords, held_row, held_rows}
-
--- ---- lists
-
-pub all_map : {X : Type 0} (P Q : X → Type 0) (xs : List X) → ((x : X) → P x → Q x) → AllByRecursion P xs → AllByRecursion Q xs
-all_map P Q [] each all = tt
-all_map P Q (x ∷ xs) each all = (each x all.0, all_map P Q xs each all.1)
-
-pub all_at : {X : Type 0} (P : X → Type 0) (xs : List X) (k : ℕ) (d : X) → k < length xs → AllByRecursion P xs → P (get_or xs k d)
-all_at P [] k d below all = absurd (omega arith)
-all_at P (x ∷ xs) zero d below all = all.0
-all_at P (x ∷ xs) (suc k) d below all = all_at P xs k d (omega arith) all.1
-
--- one more is looked at
-pub map_more : {X Y : Type 0} (f : X → Y) (xs : List X) (k : ℕ) (d : X) → k < length xs → map f (take (k + 1) xs) ≡ map f (take k xs) ++ f (get_or xs k d) ∷ []
-map_more f xs k d below = ap (map f) (take_more xs k d below) ∙ map-append f (take k xs) (get_or xs k d ∷ [])
+use Rattle.e57_blocks.specs.Runs.{HasRecords}
+use Rattle.e57_rows.specs.Blocks.{held_row, held_rows}
+use Rattle.e57_base.proofs.Lists.{all_map}
 
 -- ---- cells
 

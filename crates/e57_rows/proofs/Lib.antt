@@ -3,8 +3,5 @@ pub mod Digits
 pub mod Held
 pub mod Lines
 pub mod Cells
-pub mod Filling
 pub mod Records
-pub mod Sides
-pub mod Openings
 pub mod Puts

@@ -1,11 +1,11 @@
 -- The lines of the asked fields beside their blocks.
-use Rattle.std.specs.Prelude.{◌≡◌, ℕ, zero, suc, ◌+◌, ◌-◌, ◌<◌, Bool, true, false, List, [], ◌∷◌, ◌++◌, map, length, take, get_or, Option, Some, None, is_some, IfOk, Result, Ok, Err}
+use Rattle.std.specs.Prelude.{◌≡◌, ℕ, zero, suc, ◌+◌, ◌-◌, ◌<◌, Bool, true, false, List, [], ◌∷◌, ◌++◌, map, length, get_or, Option, Some, None, IfOk, Result, Ok, Err}
 use Rattle.std.specs.List.{AllByRecursion}
 use Rattle.std.proofs.Common.{cond, ℤ, refl, sym, subst, ap, ◌∙◌, arith}
 use Rattle.e57_layout.specs.declared.field.Field.{Field}
 use Rattle.e57_layout.specs.declared.field.FieldKind.{FieldKind}
 use Rattle.e57_layout.specs.declared.field.FieldKind.TheVariants.{Int, Scaled, Bits32, Bits64, Text}
-use Rattle.e57_layout.specs.Values.{ItemKind, integers, words, strings, item_kind, Value, whole, word, octets}
+use Rattle.e57_layout.specs.Values.{ItemKind, integers, item_kind, Value, whole}
 use Rattle.e57_cloud.specs.Cloud.{Leaf}
 use Rattle.e57_column.specs.Column.{kind_of}
 use Rattle.e57_blocks.specs.declared.block.Item.{Item}
@@ -14,9 +14,9 @@ use Rattle.e57_blocks.specs.Block.{Block, held_item, item_value, IsKept, IsOfKin
 use Rattle.e57_decimal.specs.declared.values.Decimal.{Decimal}
 use Rattle.e57_decimal.specs.Decided.{decimal_in}
 use Rattle.e57_decimal.specs.Scaling.{Line, is_linear, line_with}
-use Rattle.e57_rows.specs.Cells.{cell, csv_row, item_text}
-use Rattle.e57_rows.specs.Rows.{asked_of, field_at, leaf_of}
-use Rattle.e57_rows.specs.Blocks.{field_of, cell_at, held_row, held_rows}
+use Rattle.e57_rows.specs.Cells.{cell, csv_row}
+use Rattle.e57_blocks.specs.Fields.{asked_of, field_at, leaf_of, field_of}
+use Rattle.e57_rows.specs.Blocks.{cell_at, held_row, held_rows}
 use Rattle.e57_rows.specs.Shown.{line_between, line_in, line_at, lines_of, on_line, as_it_is, show_of}
 use Rattle.e57_rows.specs.Lined.{IsFor, AreFor, AreShownBy, IsOnLine, line_text}
 use Rattle.e57_rows.proofs.Held.{text_cell}

@@ -16,15 +16,16 @@ use Rattle.e57_base.specs.declared.fault.OpenFault.{OpenFault}
 use Rattle.e57_base.specs.declared.fault.OpenFault.TheVariants as lost
 use Rattle.e57_base.specs.declared.fault.RunFault.TheVariants.{Out, Memory}
 use Rattle.e57_layout.specs.Values.{Value}
-use Rattle.e57_cloud.specs.Cloud.{Leaf}
 use Rattle.e57_stream.specs.Asking.{AsksMet}
 use Rattle.e57_stream.proofs.AskingLaws.{asks_met_none, asks_met_on, asks_met_map}
 use Rattle.e57_blocks.specs.Block.{Block, Holds}
-use Rattle.e57_rows.specs.Rows.{section_row, shown_row, rows_text, rows_fault}
-use Rattle.e57_rows.specs.Putting.{Slice, slice_text, slice_fault, OnSlice, PutsFront, PutsRows, IsRowsCause, FailsRows}
-use Rattle.e57_rows.specs.Blocks.{AreBlocks, IsReady, HasRecords, AreOfFile, blocks_slice, held_rows, FillsBlocks, IsBlocksCause, FillsNoBlocks}
-use Rattle.e57_rows.proofs.Held.{all_map}
-use Rattle.e57_rows.proofs.Records.{AreRows, rows_none, rows_both, rows_on, rows_sound, rows_stop, row_lost}
+use Rattle.e57_rows.specs.Rows.{shown_row, rows_text, rows_fault}
+use Rattle.e57_blocks.specs.Runs.{HasRecords}
+use Rattle.e57_blocks.specs.Fields.{Slice, OnSlice, slice_at, record_fault, Blocks, AreOf, AreBlocks, IsReady, AreOfFile, FillsBlocks, IsBlocksCause, FillsNoBlocks}
+use Rattle.e57_rows.specs.Putting.{slice_text, slice_fault, PutsFront, PutsRows, IsRowsCause, FailsRows}
+use Rattle.e57_rows.specs.Blocks.{held_rows}
+use Rattle.e57_base.proofs.Lists.{all_map}
+use Rattle.e57_rows.proofs.Records.{AreRows, row_wrong, rows_none, rows_both, rows_on, rows_sound, rows_stop, row_lost}
 
 -- ---- what a sink holds
 
@@ -147,8 +148,8 @@ fails_first show a source out =
     record { met = first.met; cause = puts_front show a 0 source source out out (omega arith) first }
 
 -- the next record isn't held
-pub fails_fill : (show : ℕ → Value → Value) (a : Slice) (n want i : ℕ) (old mid new : SourceView) (out out' : SinkView) (fault : OpenFault) → 0 < want → i ≡ a.from + n → n + want ≤ a.count → PutsTo show a n old mid out out' → FillsNoBlocks (part a i want) mid fault new → FailsRows show a old new out out' (open_as_run fault)
-fails_fill show a n want i old mid new out out' fault some place within first fails =
+pub fails_fill : (show : ℕ → Value → Value) (a : Slice) (n want i : ℕ) (old mid new : SourceView) (out out' : SinkView) (before after : List Block) (fault : OpenFault) → 0 < want → i ≡ a.from + n → n + want ≤ a.count → PutsTo show a n old mid out out' → FillsNoBlocks (part a i want) mid before fault new after → FailsRows show a old new out out' (open_as_run fault)
+fails_fill show a n want i old mid new out out' before after fault some place within first fails =
     record {
       met = asks_met_on (OnSlice a) old mid new first.met (part_asks a i want mid new (omega (arith, place)) (omega (arith, place, within)) fails.met);
       cause = by_cause fault fails.cause;
@@ -157,18 +158,16 @@ fails_fill show a n want i old mid new out out' fault some place within first fa
     left : n + suc (a.count - n - 1) ≡ a.count
     left = omega (arith, some, within)
 
-    stops : (found : Fault) → IfSome mid.held (λ file. section_row file a.section a.fixed a.asked i ≡ Err found) → IfSome old.held (λ file. (slice_fault show a file ≡ Some found) × (first.text ≡ slice_text show a file))
+    stops : (found : Fault) → IfSome mid.held (λ file. record_fault file a.section a.fixed a.asked i ≡ Some found) → IfSome old.held (λ file. (slice_fault show a file ≡ Some found) × (first.text ≡ slice_text show a file))
     stops found wrong =
-        told_both (λ file. rows_of show a file a.from n first.text) (λ file. shown_row show file a.section a.fixed a.asked i ≡ Err found) (λ file. (slice_fault show a file ≡ Some found) × (first.text ≡ slice_text show a file)) old.held
+        told_both (λ file. rows_of show a file a.from n first.text) (λ file. record_fault file a.section a.fixed a.asked i ≡ Some found) (λ file. (slice_fault show a file ≡ Some found) × (first.text ≡ slice_text show a file)) old.held
         (λ file rows is.
         let row = shown_row show file a.section a.fixed a.asked in
-        let stop = rows_stop row a.from n (a.count - n - 1) first.text found rows (subst (λ (k : ℕ). row k ≡ Err found) place is) in
+        let stop = rows_stop row a.from n (a.count - n - 1) first.text found rows (subst (λ (k : ℕ). row k ≡ Err found) place (row_lost show file a.section a.fixed a.asked i found (row_wrong file a.section a.fixed a.asked i found is))) in
         subst (λ (k : ℕ). (rows_fault row a.from k ≡ Some found) × (first.text ≡ rows_text row a.from k)) left stop) first.rows
-        (told_here (λ file. shown_row show file a.section a.fixed a.asked i ≡ Err found) mid.held old.held (sym first.met.asks.same.held)
-        (told_map (λ file. section_row file a.section a.fixed a.asked i ≡ Err found) (λ file. shown_row show file a.section a.fixed a.asked i ≡ Err found) mid.held
-        (λ file is. row_lost show file a.section a.fixed a.asked i found is) wrong))
+        (told_here (λ file. record_fault file a.section a.fixed a.asked i ≡ Some found) mid.held old.held (sym first.met.asks.same.held) wrong)
 
-    by_cause : (fault : OpenFault) → IsBlocksCause (part a i want) mid fault new → IsRowsCause show a old new out out' (open_as_run fault)
+    by_cause : (fault : OpenFault) → IsBlocksCause (part a i want) mid before fault new → IsRowsCause show a old new out out' (open_as_run fault)
     by_cause (lost.Refused found) (kind, wrong) =
         let both = stops found wrong in (
           kind,
@@ -176,7 +175,7 @@ fails_fill show a n want i old mid new out out' fault some place within first fa
           (first.text, told_map (λ file. (slice_fault show a file ≡ Some found) × (first.text ≡ slice_text show a file)) (λ file. first.text ≡ slice_text show a file) old.held (λ file x. x.1) both, first.wrote),
         )
     by_cause lost.Source rose = (rose_before old.faults mid.faults new.faults first.met.asks.faults rose, puts_front show a n old mid out out' (omega (arith, within)) first)
-    by_cause lost.Memory unit = puts_front show a n old mid out out' (omega (arith, within)) first
+    by_cause lost.Memory needs = puts_front show a n old mid out out' (omega (arith, within)) first
 
 -- there is no memory for the text of the next run
 pub fails_text : (show : ℕ → Value → Value) (a : Slice) (n want m i : ℕ) (old mid new : SourceView) (out out' : SinkView) (blocks : List Block) → i ≡ a.from + n → n + want ≤ a.count → PutsTo show a n old mid out out' → FillsBlocks (part a i want) mid m new blocks → FailsRows show a old new out out' Memory
@@ -209,35 +208,44 @@ ready_on i n blocks have = all_map (HasRecords i n) (IsReady (i + n)) blocks (λ
 pub holds_later : (old new : SourceView) (blocks : List Block) → new.held ≡ old.held → AreOfFile old blocks → AreOfFile new blocks
 holds_later old new blocks same holds = told_here (λ file. AllByRecursion (Holds file) blocks) old.held new.held same holds
 
--- what is filled of the blocks of these fields
-pub fills_part : (a : Slice) (blocks after : List Block) (i want n : ℕ) (old new : SourceView) → AreBlocks a.section a.fixed a.asked blocks → FillsBlocks (blocks_slice a.section a.fixed blocks i want) old n new after → FillsBlocks (part a i want) old n new after
-fills_part a blocks after i want n old new are fills =
-    subst (λ (asked : List (ℕ × Leaf)). FillsBlocks (record { section = a.section; fixed = a.fixed; asked = asked; from = i; count = want }) old n new after) are.fields fills
+-- they are blocks of the fields of a slice
+pub record AreBeside (a : Slice) (b : Blocks) : Type 0 where
+  pub are_of : AreOf a.section a.fixed b
+  pub are : AreBlocks a.section a.fixed a.asked b.blocks
 
-pub fills_no_part : (a : Slice) (blocks : List Block) (i want : ℕ) (fault : OpenFault) (old new : SourceView) → AreBlocks a.section a.fixed a.asked blocks → FillsNoBlocks (blocks_slice a.section a.fixed blocks i want) old fault new → FillsNoBlocks (part a i want) old fault new
-fills_no_part a blocks i want fault old new are fills =
-    subst (λ (asked : List (ℕ × Leaf)). FillsNoBlocks (record { section = a.section; fixed = a.fixed; asked = asked; from = i; count = want }) old fault new) are.fields fills
+slice_is : (a : Slice) (b : Blocks) (i n : ℕ) → AreBeside a b → slice_at b i n ≡ part a i n
+slice_is a b i n beside = rw (beside.are_of.in_section, beside.are_of.with_fixed, beside.are.fields) refl
+
+-- what is filled of the blocks of these fields
+pub fills_part : (a : Slice) (b : Blocks) (after : List Block) (i want n : ℕ) (old new : SourceView) → AreBeside a b → FillsBlocks (slice_at b i want) old n new after → FillsBlocks (part a i want) old n new after
+fills_part a b after i want n old new beside fills = subst (λ (x : Slice). FillsBlocks x old n new after) (slice_is a b i want beside) fills
+
+fills_no_part : (a : Slice) (b : Blocks) (after : List Block) (i want : ℕ) (fault : OpenFault) (old new : SourceView) → AreBeside a b → FillsNoBlocks (slice_at b i want) old b.blocks fault new after → FillsNoBlocks (part a i want) old b.blocks fault new after
+fills_no_part a b after i want fault old new beside fails = subst (λ (x : Slice). FillsNoBlocks x old b.blocks fault new after) (slice_is a b i want beside) fails
+
+pub beside_on : (a : Slice) (before after : Blocks) → AreBeside a before → AreOf before.section before.fixed after → AreBlocks a.section a.fixed a.asked after.blocks → AreBeside a after
+beside_on a before after beside same are = record { are_of = record { in_section = same.in_section ∙ beside.are_of.in_section; with_fixed = same.with_fixed ∙ beside.are_of.with_fixed }; are = are }
 
 -- ---- a run, as the loop has it: the records before record i were put
 
-pub run_on : (show : ℕ → Value → Value) (a : Slice) (i want m : ℕ) (old mid new : SourceView) (out out' out'' : SinkView) (blocks after : List Block) (text : List ℕ) → a.from ≤ i → i + want ≤ a.from + a.count → AreBlocks a.section a.fixed a.asked blocks → PutsTo show a (i - a.from) old mid out out'
-    → FillsBlocks (blocks_slice a.section a.fixed blocks i want) mid m new after → text ≡ held_rows show after i m → Grows out'.written text out''.written → out'.faults ≤ out''.faults → PutsTo show a (i + m - a.from) old new out out''
-run_on show a i want m old mid new out out' out'' blocks after text low high are first fills is wrote counts =
+pub run_on : (show : ℕ → Value → Value) (a : Slice) (i want m : ℕ) (old mid new : SourceView) (out out' out'' : SinkView) (b : Blocks) (after : List Block) (text : List ℕ) → a.from ≤ i → i + want ≤ a.from + a.count → AreBeside a b → PutsTo show a (i - a.from) old mid out out'
+    → FillsBlocks (slice_at b i want) mid m new after → text ≡ held_rows show after i m → Grows out'.written text out''.written → out'.faults ≤ out''.faults → PutsTo show a (i + m - a.from) old new out out''
+run_on show a i want m old mid new out out' out'' b after text low high beside first fills is wrote counts =
     let n : i - a.from + m ≡ i + m - a.from = omega (arith, low) in
     subst (λ (k : ℕ). PutsTo show a k old new out out'') n
-    (puts_on show a (i - a.from) want m i old mid new out out' out'' after text (omega (arith, low)) (omega (arith, low, high)) first (fills_part a blocks after i want m mid new are fills) is wrote counts)
+    (puts_on show a (i - a.from) want m i old mid new out out' out'' after text (omega (arith, low)) (omega (arith, low, high)) first (fills_part a b after i want m mid new beside fills) is wrote counts)
 
-pub run_not : (show : ℕ → Value → Value) (a : Slice) (i want : ℕ) (old mid new : SourceView) (out out' : SinkView) (blocks : List Block) (fault : OpenFault) → 0 < want → a.from ≤ i → i + want ≤ a.from + a.count → AreBlocks a.section a.fixed a.asked blocks → PutsTo show a (i - a.from) old mid out out'
-    → FillsNoBlocks (blocks_slice a.section a.fixed blocks i want) mid fault new → FailsRows show a old new out out' (open_as_run fault)
-run_not show a i want old mid new out out' blocks fault some low high are first fails =
-    fails_fill show a (i - a.from) want i old mid new out out' fault some (omega (arith, low)) (omega (arith, low, high)) first (fills_no_part a blocks i want fault mid new are fails)
+pub run_not : (show : ℕ → Value → Value) (a : Slice) (i want : ℕ) (old mid new : SourceView) (out out' : SinkView) (b : Blocks) (after : List Block) (fault : OpenFault) → 0 < want → a.from ≤ i → i + want ≤ a.from + a.count → AreBeside a b → PutsTo show a (i - a.from) old mid out out'
+    → FillsNoBlocks (slice_at b i want) mid b.blocks fault new after → FailsRows show a old new out out' (open_as_run fault)
+run_not show a i want old mid new out out' b after fault some low high beside first fails =
+    fails_fill show a (i - a.from) want i old mid new out out' b.blocks after fault some (omega (arith, low)) (omega (arith, low, high)) first (fills_no_part a b after i want fault mid new beside fails)
 
-pub run_unwritten : (show : ℕ → Value → Value) (a : Slice) (i want m : ℕ) (old mid new : SourceView) (out out' : SinkView) (blocks after : List Block) → a.from ≤ i → i + want ≤ a.from + a.count → AreBlocks a.section a.fixed a.asked blocks → PutsTo show a (i - a.from) old mid out out'
-    → FillsBlocks (blocks_slice a.section a.fixed blocks i want) mid m new after → FailsRows show a old new out out' Memory
-run_unwritten show a i want m old mid new out out' blocks after low high are first fills =
-    fails_text show a (i - a.from) want m i old mid new out out' after (omega (arith, low)) (omega (arith, low, high)) first (fills_part a blocks after i want m mid new are fills)
+pub run_unwritten : (show : ℕ → Value → Value) (a : Slice) (i want m : ℕ) (old mid new : SourceView) (out out' : SinkView) (b : Blocks) (after : List Block) → a.from ≤ i → i + want ≤ a.from + a.count → AreBeside a b → PutsTo show a (i - a.from) old mid out out'
+    → FillsBlocks (slice_at b i want) mid m new after → FailsRows show a old new out out' Memory
+run_unwritten show a i want m old mid new out out' b after low high beside first fills =
+    fails_text show a (i - a.from) want m i old mid new out out' after (omega (arith, low)) (omega (arith, low, high)) first (fills_part a b after i want m mid new beside fills)
 
-pub run_unput : (show : ℕ → Value → Value) (a : Slice) (i want m : ℕ) (old mid new : SourceView) (out out' out'' : SinkView) (blocks after : List Block) (text : List ℕ) → a.from ≤ i → i + want ≤ a.from + a.count → AreBlocks a.section a.fixed a.asked blocks → PutsTo show a (i - a.from) old mid out out'
-    → FillsBlocks (blocks_slice a.section a.fixed blocks i want) mid m new after → text ≡ held_rows show after i m → GrowsByFront out'.written text out''.written → Rose out'.faults out''.faults → FailsRows show a old new out out'' Out
-run_unput show a i want m old mid new out out' out'' blocks after text low high are first fills is front rose =
-    fails_put show a (i - a.from) want m i old mid new out out' out'' after text (omega (arith, low)) (omega (arith, low, high)) first (fills_part a blocks after i want m mid new are fills) is front rose
+pub run_unput : (show : ℕ → Value → Value) (a : Slice) (i want m : ℕ) (old mid new : SourceView) (out out' out'' : SinkView) (b : Blocks) (after : List Block) (text : List ℕ) → a.from ≤ i → i + want ≤ a.from + a.count → AreBeside a b → PutsTo show a (i - a.from) old mid out out'
+    → FillsBlocks (slice_at b i want) mid m new after → text ≡ held_rows show after i m → GrowsByFront out'.written text out''.written → Rose out'.faults out''.faults → FailsRows show a old new out out'' Out
+run_unput show a i want m old mid new out out' out'' b after text low high beside first fills is front rose =
+    fails_put show a (i - a.from) want m i old mid new out out' out'' after text (omega (arith, low)) (omega (arith, low, high)) first (fills_part a b after i want m mid new beside fills) is front rose

@@ -3,35 +3,21 @@ use Rattle.std.specs.Prelude.{◌≡◌, ℕ, zero, suc, ◌+◌, ◌-◌, ◌<�
 use Rattle.std.specs.List.{AllByRecursion}
 use Rattle.std.proofs.Common.{refl, sym, subst, ap, ◌∙◌, arith, add-zero, zero-add, append_assoc}
 use Rattle.std.proofs.lemmas.List.{append-nil}
+use Rattle.std.proofs.lemmas.Option.{same_Some}
 use Rattle.e57_base.specs.declared.fault.Fault.{Fault}
 use Rattle.e57_layout.specs.Values.{Value}
 use Rattle.e57_layout.specs.declared.field.Fixed.{Fixed}
 use Rattle.e57_layout.specs.declared.section.Section.{Section}
 use Rattle.e57_cloud.specs.Cloud.{Leaf}
 use Rattle.e57_cloud.specs.PathItem.{and_then, item_of}
-use Rattle.e57_column.specs.Column.{leaf_of, column_item}
 use Rattle.e57_blocks.specs.Block.{Block, held_item, Holds}
 use Rattle.e57_rows.specs.Cells.{cell, csv_row}
-use Rattle.e57_rows.specs.Shown.{as_it_is}
-use Rattle.e57_rows.specs.Rows.{cells_of, shown, shown_row, section_row, rows_text, rows_fault, text_before, fault_before}
-use Rattle.e57_rows.specs.Blocks.{field_of, IsOf, AreBlocks, HasRecords, cell_at, held_row, held_rows}
-use Rattle.e57_rows.proofs.Held.{all_map}
-
--- ---- one item
-
--- the item of a field, as a column of the section has it
-column_of : (file : List ℕ) (s : Section) (fixed : Option Fixed) (b : Block) (i : ℕ) → IsOf s fixed b → column_item file b.column i ≡ item_of file s fixed (field_of b).0 (field_of b).1 i
-column_of file s fixed b i is =
-    ap (λ (t : Section). item_of file t b.column.stream.fixed b.column.stream.field (leaf_of b.column) i) is.in_section
-    ∙ ap (λ (x : Option Fixed). item_of file s x b.column.stream.field (leaf_of b.column) i) is.with_fixed
-
-item_held : (file : List ℕ) (s : Section) (fixed : Option Fixed) (b : Block) (i : ℕ) → IsOf s fixed b → Holds file b → HasRecords i 1 b → item_of file s fixed (field_of b).0 (field_of b).1 i ≡ Ok (held_item b (i - b.first))
-item_held file s fixed b i is holds has =
-    let low = has.0 in
-    let high = has.1 in
-    let place : b.first + (i - b.first) ≡ i = omega (arith, low) in
-    let item = holds.items (i - b.first) (omega (arith, low, high)) in
-    sym (column_of file s fixed b i is) ∙ subst (λ (k : ℕ). column_item file b.column k ≡ Ok (held_item b (i - b.first))) place item
+use Rattle.e57_rows.specs.Rows.{cells_of, shown, shown_row, section_row, rows_text, rows_fault, text_before, fault_before as rows_before}
+use Rattle.e57_blocks.specs.Runs.{HasRecords}
+use Rattle.e57_blocks.specs.Fields.{field_of, IsOf, AreBlocks, fault_before, first_fault, record_fault}
+use Rattle.e57_rows.specs.Blocks.{cell_at, held_row, held_rows}
+use Rattle.e57_base.proofs.Lists.{all_map}
+use Rattle.e57_blocks.proofs.Faults.{item_held}
 
 -- ---- one record
 
@@ -47,10 +33,6 @@ cells_first : (item : ℕ → Leaf → Result Value Fault) (f : ℕ) (leaf : Lea
 unfolding cells_of
 cells_first item f leaf asked v is = ap (λ (r : Result Value Fault). and_then r (λ v. and_then (cells_of item asked) (λ cells. Ok (cell leaf.kind v ∷ cells)))) is
 
-cells_fault : (item : ℕ → Leaf → Result Value Fault) (f : ℕ) (leaf : Leaf) (asked : List (ℕ × Leaf)) (found : Fault) → item f leaf ≡ Err found → cells_of item ((f, leaf) ∷ asked) ≡ Err found
-unfolding cells_of
-cells_fault item f leaf asked found is = ap (λ (r : Result Value Fault). and_then r (λ v. and_then (cells_of item asked) (λ cells. Ok (cell leaf.kind v ∷ cells)))) is
-
 cells_held : (show : ℕ → Value → Value) (file : List ℕ) (s : Section) (fixed : Option Fixed) (i : ℕ) (blocks : List Block) → AllByRecursion (IsOf s fixed) blocks → AllByRecursion (Holds file) blocks → AllByRecursion (HasRecords i 1) blocks
     → cells_of (shown_looks show file s fixed i) (map field_of blocks) ≡ Ok (map (cell_at show i) blocks)
 unfolding cells_of
@@ -59,13 +41,15 @@ cells_held show file s fixed i (b ∷ blocks) are hold have =
     cells_first (shown_looks show file s fixed i) (field_of b).0 (field_of b).1 (map field_of blocks) (show (field_of b).0 (held_item b (i - b.first))) (ap (shown show (field_of b).0) (item_held file s fixed b i are.0 hold.0 have.0))
     ∙ ap (λ (r : Result (List (List ℕ)) Fault). and_then r (λ cells. Ok (cell_at show i b ∷ cells))) (cells_held show file s fixed i blocks are.1 hold.1 have.1)
 
--- the first blocks hold the record, and the next one has a fault
-cells_stop : (file : List ℕ) (s : Section) (fixed : Option Fixed) (i : ℕ) (before : List Block) (b : Block) (rest : List (ℕ × Leaf)) (found : Fault) → AllByRecursion (IsOf s fixed) before → AllByRecursion (Holds file) before → AllByRecursion (HasRecords i 1) before
-    → item_of file s fixed (field_of b).0 (field_of b).1 i ≡ Err found → cells_of (looks file s fixed i) (map field_of before ++ field_of b ∷ rest) ≡ Err found
-cells_stop file s fixed i [] b rest found are hold have wrong = cells_fault (looks file s fixed i) (field_of b).0 (field_of b).1 rest found wrong
-cells_stop file s fixed i (c ∷ before) b rest found are hold have wrong =
-    cells_first (looks file s fixed i) (field_of c).0 (field_of c).1 (map field_of before ++ field_of b ∷ rest) (held_item c (i - c.first)) (item_held file s fixed c i are.0 hold.0 have.0)
-    ∙ ap (λ (r : Result (List (List ℕ)) Fault). and_then r (λ cells. Ok (cell_at as_it_is i c ∷ cells))) (cells_stop file s fixed i before b rest found are.1 hold.1 have.1 wrong)
+-- the first of these fields that has a fault
+cells_wrong : (item : ℕ → Leaf → Result Value Fault) (asked : List (ℕ × Leaf)) (found : Fault) → first_fault item asked ≡ Some found → cells_of item asked ≡ Err found
+unfolding first_fault cells_of
+cells_wrong item [] found is = absurd cc
+cells_wrong item ((f, leaf) ∷ asked) found is = by_item (item f leaf) is (λ rest. cells_wrong item asked found rest)
+  where
+    by_item : (r : Result Value Fault) → fault_before r (first_fault item asked) ≡ Some found → (first_fault item asked ≡ Some found → cells_of item asked ≡ Err found) → and_then r (λ v. and_then (cells_of item asked) (λ cells. Ok (cell leaf.kind v ∷ cells))) ≡ Err found
+    by_item (Ok v) is later = ap (λ (r : Result (List (List ℕ)) Fault). and_then r (λ cells. Ok (cell leaf.kind v ∷ cells))) (later is)
+    by_item (Err wrong) is later = ap Err (same_Some wrong found is)
 
 row_held : (show : ℕ → Value → Value) (file : List ℕ) (s : Section) (fixed : Option Fixed) (i : ℕ) (blocks : List Block) → AllByRecursion (IsOf s fixed) blocks → AllByRecursion (Holds file) blocks → AllByRecursion (HasRecords i 1) blocks
     → shown_row show file s fixed (map field_of blocks) i ≡ Ok (held_row show blocks i)
@@ -94,11 +78,9 @@ row_lost show file s fixed asked i found is = by_cells (cells_of (looks file s f
     by_cells (Ok cells) at_cells is = absurd cc
     by_cells (Err e) at_cells is = rw (cells_lost show (looks file s fixed i) asked found (at_cells ∙ cc)) refl
 
-pub row_stop : (file : List ℕ) (s : Section) (fixed : Option Fixed) (i : ℕ) (before : List Block) (b : Block) (rest : List (ℕ × Leaf)) (found : Fault) → AllByRecursion (IsOf s fixed) before → AllByRecursion (Holds file) before → AllByRecursion (HasRecords i 1) before → IsOf s fixed b
-    → column_item file b.column i ≡ Err found → section_row file s fixed (map field_of before ++ field_of b ∷ rest) i ≡ Err found
+pub row_wrong : (file : List ℕ) (s : Section) (fixed : Option Fixed) (asked : List (ℕ × Leaf)) (i : ℕ) (found : Fault) → record_fault file s fixed asked i ≡ Some found → section_row file s fixed asked i ≡ Err found
 unfolding section_row
-row_stop file s fixed i before b rest found are hold have is wrong =
-    ap (λ (r : Result (List (List ℕ)) Fault). and_then r (λ cells. Ok (csv_row cells))) (cells_stop file s fixed i before b rest found are hold have (sym (column_of file s fixed b i is) ∙ wrong))
+row_wrong file s fixed asked i found is = ap (λ (r : Result (List (List ℕ)) Fault). and_then r (λ cells. Ok (csv_row cells))) (cells_wrong (looks file s fixed i) asked found is)
 
 -- ---- records one after another
 
@@ -108,7 +90,7 @@ text_first row i n text is = ap (λ (r : Result (List ℕ) Fault). text_before r
 
 fault_first : (row : ℕ → Result (List ℕ) Fault) (i n : ℕ) (text : List ℕ) → row i ≡ Ok text → rows_fault row i (suc n) ≡ rows_fault row (i + 1) n
 unfolding rows_fault
-fault_first row i n text is = ap (λ (r : Result (List ℕ) Fault). fault_before r (rows_fault row (i + 1) n)) is
+fault_first row i n text is = ap (λ (r : Result (List ℕ) Fault). rows_before r (rows_fault row (i + 1) n)) is
 
 text_stop : (row : ℕ → Result (List ℕ) Fault) (i n : ℕ) (found : Fault) → row i ≡ Err found → rows_text row i (suc n) ≡ []
 unfolding rows_text
@@ -116,7 +98,7 @@ text_stop row i n found is = ap (λ (r : Result (List ℕ) Fault). text_before r
 
 fault_stop : (row : ℕ → Result (List ℕ) Fault) (i n : ℕ) (found : Fault) → row i ≡ Err found → rows_fault row i (suc n) ≡ Some found
 unfolding rows_fault
-fault_stop row i n found is = ap (λ (r : Result (List ℕ) Fault). fault_before r (rows_fault row (i + 1) n)) is
+fault_stop row i n found is = ap (λ (r : Result (List ℕ) Fault). rows_before r (rows_fault row (i + 1) n)) is
 
 -- n rows of records without a fault, from record i on, and their text
 pub record AreRows (row : ℕ → Result (List ℕ) Fault) (i n : ℕ) (text : List ℕ) : Type 0 where

@@ -1,5 +1,5 @@
 -- Blocks beside the lines of their fields.
-use Rattle.std.specs.Prelude.{◌≡◌, ℕ, ℤ, ◌≤ℤ◌, List, [], ◌∷◌, Option, Some, None}
+use Rattle.std.specs.Prelude.{◌≡◌, ℕ, ◌≤ℤ◌, List, [], ◌∷◌, Option, Some, None}
 use Rattle.e57_layout.specs.Values.{Value, integers}
 use Rattle.e57_column.specs.Column.{kind_of}
 use Rattle.e57_blocks.specs.declared.block.Item.{Item}

@@ -1,32 +1,16 @@
 -- What it is to put the rows of some records of a section.
-use Rattle.std.specs.Prelude.{◌≡◌, ℕ, ◌+◌, ◌<◌, ◌≤◌, true, List, Option, Some, None, IfSome, Contains}
+use Rattle.std.specs.Prelude.{◌≡◌, ℕ, true, List, Option, Some, None, IfSome}
 use Rattle.e57_base.specs.Count.{Rose}
 use Rattle.e57_base.specs.Source.{SourceView}
 use Rattle.e57_base.specs.Sink.{SinkView, Grows, GrowsByFront}
 use Rattle.e57_base.specs.declared.fault.Fault.{Fault}
 use Rattle.e57_base.specs.declared.fault.RunFault.{RunFault}
 use Rattle.e57_base.specs.declared.fault.RunFault.TheVariants.{Refused, Source, Out, Memory, Ask}
-use Rattle.e57_layout.specs.declared.field.Field.{Field}
-use Rattle.e57_layout.specs.declared.field.Fixed.{Fixed}
-use Rattle.e57_layout.specs.declared.section.Section.{Section}
 use Rattle.e57_layout.specs.Values.{Value}
-use Rattle.e57_cloud.specs.Cloud.{Leaf}
-use Rattle.e57_cloud.specs.Met.{OnItem}
 use Rattle.e57_stream.specs.Asking.{AsksMet}
 use Rattle.e57_column.specs.Finding.{is_column_kind}
-use Rattle.e57_rows.specs.Rows.{asked_of, shown_row, rows_text, rows_fault}
-
--- the asked fields of some records of a section, one or more: the first of them, and how many
-pub record Slice : Type 0 where
-  pub section : Section
-  pub fixed : Option Fixed
-  pub asked : List (ℕ × Leaf)
-  pub from : ℕ
-  pub count : ℕ
-
--- that of the asked fields of a cloud, by their numbers
-abbrev pub slice_of : Section → Option Fixed → List Field → List ℕ → ℕ → ℕ → Slice
-slice_of s fixed fields asked from count = record { section = s; fixed = fixed; asked = asked_of fields asked; from = from; count = count }
+use Rattle.e57_blocks.specs.Fields.{Slice, OnSlice}
+use Rattle.e57_rows.specs.Rows.{shown_row, rows_text, rows_fault}
 
 -- the rows of a slice in a file, of items as they are shown, up to the first record with a fault
 abbrev pub slice_text : (ℕ → Value → Value) → Slice → List ℕ → List ℕ
@@ -35,16 +19,6 @@ slice_text show a file = rows_text (shown_row show file a.section a.fixed a.aske
 -- the fault of the first of its records that has one
 abbrev pub slice_fault : (ℕ → Value → Value) → Slice → List ℕ → Option Fault
 slice_fault show a file = rows_fault (shown_row show file a.section a.fixed a.asked) a.from a.count
-
--- page p is one on the way to the item of one of its fields and records
-pub record OnSlice (a : Slice) (file : List ℕ) (p : ℕ) : Type 0 where
-  pub f : ℕ
-  pub leaf : Leaf
-  pub i : ℕ
-  pub asks : Contains a.asked (f, leaf)
-  pub after : a.from ≤ i
-  pub before : i < a.from + a.count
-  pub way : OnItem file a.section a.fixed f leaf i p
 
 -- its rows were put
 abbrev pub PutsText : (ℕ → Value → Value) → Slice → Option (List ℕ) → SinkView → SinkView → Type 0

@@ -1,31 +1,16 @@
 -- The rows of some records: of each the items of the asked fields, in the asked order.
-use Rattle.std.specs.Prelude.{ℕ, zero, suc, ◌+◌, List, [], ◌∷◌, ◌++◌, map, slice_index_or, Option, Some, None, Result, Ok, Err}
+use Rattle.std.specs.Prelude.{ℕ, zero, suc, ◌+◌, List, [], ◌∷◌, ◌++◌, map, Option, Some, None, Result, Ok, Err}
 use Rattle.e57_base.specs.declared.fault.Fault.{Fault}
 use Rattle.e57_layout.specs.declared.field.Field.{Field}
-use Rattle.e57_layout.specs.declared.field.FieldKind.TheVariants.{Text}
 use Rattle.e57_layout.specs.declared.field.Fixed.{Fixed}
 use Rattle.e57_layout.specs.declared.section.Section.{Section}
-use Rattle.e57_layout.specs.Values.{item_kind, Value}
+use Rattle.e57_layout.specs.Values.{Value}
 use Rattle.e57_cloud.specs.Cloud.{Leaf}
 use Rattle.e57_cloud.specs.PathItem.{and_then, item_of}
+use Rattle.e57_blocks.specs.Fields.{field_at}
 use Rattle.e57_rows.specs.Cells.{cell, csv_row}
 
 -- ---- the asked fields
-
-abbrev pub no_field : Field
-no_field = record { node = 0; path = []; kind = Text; width = 0 }
-
--- a field as the reading of a section knows it
-abbrev pub leaf_of : Field → Leaf
-leaf_of field = record { node = field.node; kind = item_kind field.kind }
-
--- field f of these fields
-abbrev pub field_at : List Field → ℕ → Field
-field_at fields f = slice_index_or fields f no_field
-
--- the asked fields, by their numbers, each with its number
-abbrev pub asked_of : List Field → List ℕ → List (ℕ × Leaf)
-asked_of fields numbers = map (λ (f : ℕ). (f, leaf_of (field_at fields f))) numbers
 
 -- the row of their paths
 abbrev pub heading_text : List Field → List ℕ → List ℕ

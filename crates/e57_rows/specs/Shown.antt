@@ -8,7 +8,7 @@ use Rattle.e57_decimal.specs.declared.values.Decimal.{Decimal}
 use Rattle.e57_decimal.specs.Decided.{decimal_in}
 use Rattle.e57_decimal.specs.Scaling.{Line, linear_of, value_of}
 use Rattle.e57_decimal.specs.Writing.{decimal_text}
-use Rattle.e57_rows.specs.Rows.{field_at}
+use Rattle.e57_blocks.specs.Fields.{field_at}
 
 -- the line of a scale and an offset over the numbers within limits, if there are both and it is linear within 128 bits
 abbrev pub line_between : Option Decimal → Option Decimal → ℤ → ℤ → Option Line

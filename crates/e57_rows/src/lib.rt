@@ -2,7 +2,6 @@
 //! after another (ASTM E2807, compressed vector binary sections).
 #![tactic(auto)]
 
-mod blocks;
 mod cell;
 mod hexadecimal;
 mod numbers;

@@ -7,13 +7,14 @@ ghost use Rattle.e57_page.specs.Place.{payload_length};
 ghost use Rattle.e57_layout.specs.Values.{IsValidField};
 ghost use Rattle.e57_section.specs.Opening.{LiesIn};
 ghost use Rattle.e57_ahead.specs.Counting.{IsWidth};
-ghost use Rattle.e57_rows.specs.Putting.{slice_of, PutsRows, FailsRows};
+ghost use Rattle.e57_blocks.specs.Fields.{slice_of};
+ghost use Rattle.e57_rows.specs.Putting.{PutsRows, FailsRows};
 ghost use Rattle.e57_rows.specs.Shown.{show_of};
 
-use crate::blocks::{MOST, fill_blocks, open_blocks};
 use crate::numbers::lines;
 use crate::shown::rows_shown;
 use e57_base::{RunFault, Sink, Source};
+use e57_blocks::{FieldBlocks, MOST};
 use e57_layout::{Field, Fixed, Section};
 use e57_page::Pages;
 use std::alloc::Global;
@@ -54,20 +55,13 @@ pub fn put_rows<S: Source, O: Sink>(
 {
     let _size = pages.logical_len();
     let lines = lines(alloc, numbers, fields, asked)?;
-    let mut blocks = open_blocks(alloc, section, fixed, fields, asked)?;
+    let mut blocks = FieldBlocks::open(alloc, section, fixed, fields, asked)?;
     let mut text = Vec::new(alloc);
     let until = from + count;
     let mut at = from;
     while at < until {
-        let n = fill_blocks(
-            section,
-            fixed,
-            &mut blocks,
-            pages,
-            at,
-            run_length(until - at),
-        )?;
-        text = rows_shown(numbers, &lines, &blocks, at, n, text)?;
+        let n = blocks.fill(pages, at, run_length(until - at))?;
+        text = rows_shown(numbers, &lines, blocks.blocks(), at, n, text)?;
         match out.put(&text) {
             Ok(()) => at += n as u64,
             Err(_) => return Err(RunFault::Out),

@@ -3,7 +3,8 @@
 ghost use Rattle.std.specs.Prelude.{◌≡◌, ◌+◌, ◌^◌, ◌<◌, ◌++◌, ℕ, List, [], None, Option, false, length, IfOk, OnOk};
 ghost use Rattle.std.specs.List.{AllByRecursion};
 ghost use Rattle.e57_layout.specs.Values.{Value};
-ghost use Rattle.e57_rows.specs.Blocks.{HasRecords, held_row, held_rows};
+ghost use Rattle.e57_blocks.specs.Runs.{HasRecords};
+ghost use Rattle.e57_rows.specs.Blocks.{held_row, held_rows};
 ghost use Rattle.e57_rows.specs.Lined.{AreFor, AreShownBy};
 ghost use Rattle.e57_rows.specs.Writing.{AtRow, InRow};
 

@@ -2,7 +2,8 @@
 
 ghost use Rattle.std.specs.Prelude.{◌≡◌, ◌+◌, ◌^◌, ◌<◌, ◌++◌, ℕ, List, [], Option, length, IfOk, OnOk};
 ghost use Rattle.std.specs.List.{AllByRecursion};
-ghost use Rattle.e57_rows.specs.Blocks.{HasRecords, held_row, held_rows};
+ghost use Rattle.e57_blocks.specs.Runs.{HasRecords};
+ghost use Rattle.e57_rows.specs.Blocks.{held_row, held_rows};
 ghost use Rattle.e57_rows.specs.Shown.{as_it_is};
 ghost use Rattle.e57_rows.specs.Writing.{AtRow, InRow};
 

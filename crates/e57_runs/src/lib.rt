@@ -11,4 +11,6 @@ mod faults;
 #[cfg(test)]
 mod listings;
 #[cfg(test)]
+mod long_strings;
+#[cfg(test)]
 mod rows;

@@ -38,9 +38,10 @@ use Rattle.e57_stream.specs.Asking.{AsksMet}
 use Rattle.e57_stream.proofs.AskingLaws.{asks_met_on, asks_met_map}
 use Rattle.e57_column.specs.Finding.{is_column_kind}
 use Rattle.e57_nodes.specs.Items.{leaves_of}
-use Rattle.e57_rows.specs.Rows.{asked_of, leaf_of, field_at, no_field, heading_text, rows_text, rows_fault}
+use Rattle.e57_rows.specs.Rows.{heading_text, rows_text, rows_fault}
 use Rattle.e57_rows.specs.Shown.{show_of}
-use Rattle.e57_rows.specs.Putting.{Slice, OnSlice, PutsRows, FailsRows, IsRowsCause, slice_text, slice_fault}
+use Rattle.e57_rows.specs.Putting.{PutsRows, FailsRows, IsRowsCause, slice_text, slice_fault}
+use Rattle.e57_blocks.specs.Fields.{Slice, OnSlice, asked_of, leaf_of, field_at, no_field}
 use Rattle.e57_show.specs.Extract.{Selection, stated, selected_row, selected_rows, selected_text, selected_fault, is_rows_kind, IsMetBy}
 use Rattle.e57_show.specs.Extracting.{selection_streamed, AsksSelected, PutsFirstRows, PutsRecords, FailsRecords}
 use Rattle.e57_show.specs.Streaming.{StreamEnds, IsWhole, PutsFront}

@@ -24,11 +24,11 @@ use Rattle.e57_tree.specs.declared.items.Cloud.{Cloud}
 use Rattle.e57_tree.specs.Held.{clouds_among, clouds_of, cloud_fields}
 use Rattle.e57_file.specs.Opened.{field_number}
 use Rattle.e57_show.specs.Extract.{Asked, Selection, names_in, with_number, by_number, numbers_from, numbers_of, asked_end, asked_count, lacking_from, lacking, is_place, select_range, select_records, select}
-use Rattle.e57_rows.specs.Rows.{field_at, no_field}
-use Rattle.e57_rows.proofs.Held.{all_at}
+use Rattle.e57_blocks.specs.Fields.{field_at, no_field}
+use Rattle.e57_blocks.proofs.Parts.{all_at}
+use Rattle.e57_rows.specs.Shown.{has_decimals}
 use Rattle.std.proofs.lemmas.List.{get_or_default}
 use Rattle.std.proofs.Common.{get_or}
-use Rattle.e57_rows.specs.Shown.{has_decimals}
 use Rattle.e57_show.specs.declared.select.Selected.{Selected}
 use Rattle.e57_show.specs.Extracting.{IsSelected, IsUnselected, LacksName, LacksField}
 

@@ -22,8 +22,9 @@ use Rattle.e57_section.specs.Opening.{is_section_kind}
 use Rattle.e57_column.specs.Finding.{is_column_kind}
 use Rattle.e57_tree.specs.declared.items.Cloud.{Cloud}
 use Rattle.e57_tree.specs.Held.{clouds_of, cloud_fields}
-use Rattle.e57_rows.specs.Rows.{asked_of, field_at, heading_text, row_of, shown, rows_text, rows_fault}
+use Rattle.e57_rows.specs.Rows.{heading_text, row_of, shown, rows_text, rows_fault}
 use Rattle.e57_rows.specs.Shown.{has_decimals, show_of}
+use Rattle.e57_blocks.specs.Fields.{asked_of, field_at}
 use Rattle.e57_file.specs.Opened.{IsTreeFault, is_tree_kind, field_number}
 use Rattle.e57_show.specs.declared.ask.RowsAsk.{RowsAsk}
 use Rattle.e57_show.specs.Streaming.{Streamed}

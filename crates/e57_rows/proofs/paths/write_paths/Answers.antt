@@ -1,5 +1,5 @@
 use Rattle.std.proofs.Common.{ℕ, ◌+◌, ◌^◌, ◌<◌, map, take, arith, rules}
-use Rattle.e57_rows.specs.Rows.{field_at}
+use Rattle.e57_blocks.specs.Fields.{field_at}
 use Rattle.e57_rows.proofs.Cells.{all_cells, few_cells, path_more}
 use Rattle.e57_rows.proofs.Writing.{row_first}
 use Rattle.e57_rows.proofs.paths.write_paths.Goals as goal

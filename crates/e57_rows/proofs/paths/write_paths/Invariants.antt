@@ -1,5 +1,5 @@
 use Rattle.std.specs.Prelude.{ℕ, List, [], Option, map, take}
-use Rattle.e57_rows.specs.Rows.{field_at}
+use Rattle.e57_blocks.specs.Fields.{field_at}
 use Rattle.e57_rows.specs.Writing.{AtRow, InRow}
 use Rattle.e57_rows.proofs.paths.write_paths.Given as goal
 

@@ -1,10 +1,8 @@
 use Rattle.std.specs.Prelude.{◌≡◌, ◌+◌, ◌-◌, ◌≤◌}
 use Rattle.std.specs.List.{AllByRecursion}
-use Rattle.e57_rows.specs.Rows.{asked_of}
-use Rattle.e57_rows.specs.Putting.{slice_of}
-use Rattle.e57_rows.specs.Shown.{show_of, lines_of}
-use Rattle.e57_rows.specs.Blocks.{AreBlocks, AreOfFile, IsReady}
-use Rattle.e57_rows.proofs.Puts.{PutsTo}
+use Rattle.e57_blocks.specs.Fields.{slice_of, AreOfFile, IsReady}
+use Rattle.e57_rows.specs.Shown.{show_of}
+use Rattle.e57_rows.proofs.Puts.{AreBeside, PutsTo}
 use Rattle.e57_rows.proofs.put.put_rows.Given as goal
 
 abbrev pub invariant-loop-at : goal.invariant-loop-at
@@ -14,10 +12,10 @@ invariant-loop-at g l = record {
   end : l.until ≡ l.from + l.count;
   low : l.from ≤ l.at;
   high : l.at ≤ l.until;
-  are : AreBlocks l.section l.fixed (asked_of l.fields l.asked) l.blocks.items;
-  ready : AllByRecursion (IsReady l.at) l.blocks.items;
-  holds : AreOfFile (g.S.Source.view l.pages.source) l.blocks.items;
-  puts : PutsTo (show_of l.numbers l.fields) (slice_of l.section l.fixed l.fields l.asked l.from l.count) (l.at - l.from) (g.S.Source.view l.fn.pages.source) (g.S.Source.view l.pages.source) (g.O.Sink.view l.fn.out) (g.O.Sink.view l.out);
+  are : AreBeside (slice_of l.section l.fn.fixed l.fields l.asked l.from l.count) l.blocks;
+  ready : AllByRecursion (IsReady l.at) l.blocks.blocks;
+  holds : AreOfFile (g.S.Source.view l.pages.source) l.blocks.blocks;
+  puts : PutsTo (show_of l.numbers l.fields) (slice_of l.section l.fn.fixed l.fields l.asked l.from l.count) (l.at - l.from) (g.S.Source.view l.fn.pages.source) (g.S.Source.view l.pages.source) (g.O.Sink.view l.fn.out) (g.O.Sink.view l.out);
 }
 
 abbrev pub decreases-loop-at : goal.decreases-loop-at

@@ -1,5 +1,3 @@
-use Rattle.std.proofs.Common.{◌≡◌, ◌∙◌, List, ℕ}
-use Rattle.std.specs.Result.{IfOk}
 use Rattle.e57_rows.proofs.Lines.{plain_text}
 use Rattle.e57_rows.proofs.shown.rows_shown.Goals as goal
 

@@ -3,7 +3,8 @@ use Rattle.std.specs.List.{AllByRecursion}
 use Rattle.std.proofs.Common.{◌*◌, ◌/◌, ◌<◌, ℕ, List, length, sym, subst, arith}
 use Rattle.e57_base.specs.declared.fault.RunFault.{RunFault}
 use Rattle.e57_rows.specs.Shown.{show_of}
-use Rattle.e57_rows.specs.Putting.{Slice, OnSlice, PutsRows, FailsRows}
+use Rattle.e57_rows.specs.Putting.{PutsRows, FailsRows}
+use Rattle.e57_blocks.specs.Fields.{Slice, OnSlice}
 use Rattle.e57_show.specs.Extracting.{selection_of, FailsRecords}
 use Rattle.e57_show.proofs.Records.{records-none, opening-met, opened-met, rows-met, section-lost, rows-put, fixed-in, section-of, given-slice, met-of}
 use Rattle.e57_show.proofs.rows.put_records.Goals as goal
