@@ -1,4 +1,4 @@
-use Rattle.std.proofs.Common.{◌-◌, ◌≡◌, ◌≤◌, length}
+use Rattle.std.proofs.Common.{◌-◌, ◌≡◌, ◌≤◌}
 use Rattle.e57_example.specs.Ready.{IsReady}
 use Rattle.e57_example.proofs.sums.sum_columns.Given as goal
 
