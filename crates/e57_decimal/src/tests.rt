@@ -5,6 +5,8 @@ ghost use Rattle.std.specs.Prelude.{◌≤◌, ◌≤ℤ◌};
 use crate::writing::text_of;
 use crate::{Decimal, Linear, read_decimal};
 use arrayvec::ArrayString;
+use std::alloc::{AllocError, Global};
+use std::test::*;
 
 /// Texts, and the decimals that they are read as.
 const READ: [(&str, i128, i16); 20] = [
@@ -324,10 +326,14 @@ fn many_texts_and_values(rt: HostRuntime) {
     assert!(rt; first_misshown(3_000).is_none());
 }
 
-/// A million zeros.
-const ZEROS: [u8; 1_000_000] = [b'0'; 1_000_000];
+/// So many zeros.
+fn zeros(alloc: Global, count: usize) -> Result<Vec<u8>, AllocError> {
+    vec![in alloc; b'0'; count]
+}
 
 #[test]
-fn a_million_zeros(rt: HostRuntime) {
-    assert!(rt; is_read(&ZEROS, 0, 0));
+fn a_million_zeros(rt: HostRuntime) -> Result<(), Fail> {
+    let text = zeros(rt.alloc(), 1_000_000)?;
+    assert!(rt; is_read(&text, 0, 0));
+    Ok(())
 }

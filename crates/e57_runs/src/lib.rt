@@ -11,6 +11,4 @@ mod faults;
 #[cfg(test)]
 mod listings;
 #[cfg(test)]
-mod long_strings;
-#[cfg(test)]
 mod rows;

@@ -503,7 +503,7 @@ fn pages_of_other_chunks_arent_asked_for(rt: HostRuntime) -> Result<(), Fail> {
     Ok(())
 }
 
-// How many records of a field without bits are put.
+// How many records of a field without bits are put, and how many bytes a long string has.
 const LARGE: usize = 100_000;
 
 // `extract scan 0` and one word more, with room for a large output.
@@ -522,6 +522,41 @@ fn many_rows_are_put(rt: HostRuntime) -> Result<(), Fail> {
     }
     let bytes = bytes_of(alloc, Content::Constant)?;
     let ended = run_large(alloc, "--count=100000", bytes)?;
+    assert!(rt; ended.is(Status::Done, &rows, b""));
+    Ok(())
+}
+
+const LONG_TEXT: &str =
+    "<e57Root type=\"Structure\"><p type=\"CompressedVector\" fileOffset=\"48\" recordCount=\"2\"><prototype type=\"Structure\"><s type=\"String\"/></prototype></p></e57Root>";
+
+// The header of a section of 100,060 bytes without an index.
+const LONG_HEADER: &[u8] =
+    b"\x01\0\0\0\0\0\0\0\xdc\x86\x01\0\0\0\0\0\x50\0\0\0\0\0\0\0\0\0\0\0\0\0\0\0";
+
+// The head of a packet with a stream of 60,000 bytes, and the prefix of a string of 100,000 bytes.
+const LONG_HEAD: &[u8] = b"\x01\x01\x67\xea\x01\0\x60\xea\x41\x0d\x03\0\0\0\0\0";
+
+// The head of a packet with a stream of 40,009 bytes.
+const LONG_NEXT: &[u8] = b"\x01\0\x53\x9c\x01\0\x49\x9c";
+
+// A file of two strings, of 100,000 bytes and of none, in two packets, at bytes 80 and 60,088.
+fn long_string(alloc: Global) -> Result<Vec<u8>, AllocError> {
+    let mut section = LONG_HEADER.to_vec(alloc)?;
+    section.extend_from_slice(LONG_HEAD)?;
+    section.resize(60_040, b'a')?;
+    section.extend_from_slice(LONG_NEXT)?;
+    section.resize(100_056, b'a')?;
+    section.resize(100_060, 0)?;
+    file_with(alloc, &section, LONG_TEXT, 100_108)
+}
+
+#[test]
+fn a_long_string_is_put(rt: HostRuntime) -> Result<(), Fail> {
+    let alloc = rt.alloc();
+    let mut rows = b"s\n".to_vec(alloc)?;
+    rows.resize(LARGE.wrapping_add(2), b'a')?;
+    rows.extend_from_slice(b"\n\"\"\n")?;
+    let ended = run_large(alloc, "--from=0", long_string(alloc)?)?;
     assert!(rt; ended.is(Status::Done, &rows, b""));
     Ok(())
 }
