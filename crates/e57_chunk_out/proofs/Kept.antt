@@ -8,7 +8,7 @@ use Rattle.e57_chunk_out.specs.Waiting.{IsPending, IsWaiting, kind_in, items_in,
 use Rattle.e57_chunk_out.specs.declared.pending.Pending.{Pending}
 use Rattle.e57_chunk_out.specs.declared.pending.Pending.TheVariants.{Ints, Bits32, Bits64, Texts}
 
-length-strings : (bytes : List ℕ) (begin : ℕ) (ends : List ℕ) → length (strings_at bytes begin ends) ≡ length ends
+pub length-strings : (bytes : List ℕ) (begin : ℕ) (ends : List ℕ) → length (strings_at bytes begin ends) ≡ length ends
 unfolding strings_at
 length-strings bytes begin [] = refl
 length-strings bytes begin (e ∷ es) = ap suc (length-strings bytes e es)

@@ -1,6 +1,8 @@
 pub mod Packing
 pub mod Strings
 pub mod Waits
+pub mod Behind
+pub mod Pushed
 pub mod Joins
 pub mod Stepping
 pub mod Turning

@@ -52,7 +52,7 @@ part_ends most from n until ends h g are =
     subst (λ (es : List ℕ). AreEnds most (begin_at 0 ends from) es) (take_part from n until ends h ∙ ap (λ k. take k (drop from ends)) count)
     (subst (λ b. AreEnds most b (take n (drop from (take until ends)))) (begin_at-take from until 0 ends (omega arith)) later)
 
-all_drop : {A : Type 0} (P : A → Type 0) (k : ℕ) (xs : List A) → AllByRecursion P xs → AllByRecursion P (drop k xs)
+pub all_drop : {A : Type 0} (P : A → Type 0) (k : ℕ) (xs : List A) → AllByRecursion P xs → AllByRecursion P (drop k xs)
 all_drop P zero xs h = h
 all_drop P (suc k) [] h = tt
 all_drop P (suc k) (x ∷ xs) h = all_drop P k xs h.1

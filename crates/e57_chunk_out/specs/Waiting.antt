@@ -1,5 +1,5 @@
 -- Items of one field that wait for their group, and the field's bytes of the groups that are under way.
-use Rattle.std.specs.Prelude.{FitsSigned, ◌≡◌, ◌⊎◌, ℕ, ◌+◌, ◌≤◌, List, [], ◌++◌, length, map, take, drop}
+use Rattle.std.specs.Prelude.{FitsSigned, ◌≡◌, ◌⊎◌, ℕ, ◌+◌, ◌-◌, ◌≤◌, List, [], ◌++◌, length, map, take, drop}
 use Rattle.std.specs.Int.{w64}
 use Rattle.e57_layout.specs.Values.{ItemKind, integers, words, strings, Value, whole, word, IsKind}
 use Rattle.e57_layout.specs.Widths.{width}
@@ -47,6 +47,18 @@ pub record IsPending (pending : Pending) (n : ℕ) : Type 0 where
   pub kind : IsKind (kind_in pending)
   pub items : AreItems (kind_in pending) (items_in pending n)
   pub order : IsInOrder pending n
+
+-- behind the first n items these were put
+pub record IsPushed (before : Pending) (n : ℕ) (more : List Value) (after : Pending) : Type 0 where
+  pub kind : kind_in after ≡ kind_in before
+  pub items : items_in after (n + length more) ≡ items_in before n ++ more
+  pub pending : IsPending after (n + length more)
+
+-- of `until` items the first n were let go
+pub record IsLetGo (before : Pending) (n until : ℕ) (after : Pending) : Type 0 where
+  pub kind : kind_in after ≡ kind_in before
+  pub items : items_in after (until - n) ≡ drop n (items_in before until)
+  pub pending : IsPending after (until - n)
 
 -- ---- the field
 

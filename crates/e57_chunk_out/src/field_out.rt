@@ -4,9 +4,13 @@ ghost use Rattle.std.specs.Prelude.{◌≡◌, ℕ, ◌+◌, ◌<◌, ◌≤◌,
 ghost use Rattle.e57_layout.specs.Values.{item_kind, IsValidField, ItemKind, Value};
 ghost use Rattle.e57_layout.specs.Items.{AreItems, field_bytes};
 ghost use Rattle.e57_chunk_out.specs.Texts.{strings_at, AreEnds};
-ghost use Rattle.e57_chunk_out.specs.Waiting.{most_waiting, part, taken, cleared, kind_in, items_in, HasRoom, IsNew, IsPending, IsWaiting};
+ghost use Rattle.e57_chunk_out.specs.Waiting.{most_waiting, part, taken, cleared, later_items, with_more, kind_in, items_in, HasRoom, IsNew, IsPending, IsWaiting};
 
-use crate::pending::{Pending, new_pending, write_items, written_size};
+use crate::bytes::grow;
+use crate::pending::{
+    Pending, drop_front, new_pending, push_ints, push_long_words, push_texts, push_words,
+    write_items, written_size,
+};
 use e57_layout::Field;
 use std::alloc::{AllocError, Global};
 use std::marker::Model;
@@ -55,6 +59,60 @@ impl FieldOut {
         self.until
     }
 
+    /// Appends integers to the items that wait.
+    pub fn push_ints(&mut self, values: &[i64])
+        requires items { AreItems self.old.kind (map Value.whole values.now) }
+        requires few { length self.old.items + length values.now ≤ most_waiting }
+        ensures { self.new ≡ with_more (map Value.whole values.now) self.old }
+    {
+        push_ints(&mut self.pending, self.until, values);
+        self.until += values.len();
+    }
+
+    /// Appends words of 32 bits to the items that wait.
+    pub fn push_words(&mut self, values: &[u32])
+        requires kind { self.old.kind ≡ ItemKind.words 32 }
+        requires few { length self.old.items + length values.now ≤ most_waiting }
+        ensures { self.new ≡ with_more (map Value.word values.now) self.old }
+    {
+        push_words(&mut self.pending, self.until, values);
+        self.until += values.len();
+    }
+
+    /// Appends words of 64 bits to the items that wait.
+    pub fn push_long_words(&mut self, values: &[u64])
+        requires kind { self.old.kind ≡ ItemKind.words 64 }
+        requires few { length self.old.items + length values.now ≤ most_waiting }
+        ensures { self.new ≡ with_more (map Value.word values.now) self.old }
+    {
+        push_long_words(&mut self.pending, self.until, values);
+        self.until += values.len();
+    }
+
+    /// Appends strings, which end here in the bytes, one behind another, the first beginning at `begin`. Where memory is
+    /// refused, what waits stays.
+    pub fn push_texts(&mut self, bytes: &[u8], begin: usize, ends: &[u64]) -> Result<(), AllocError>
+        requires ends { AreEnds (length bytes.now) begin ends.now }
+        requires kind { self.old.kind ≡ ItemKind.strings }
+        requires few { length self.old.items + length ends.now ≤ most_waiting }
+        ensures { MatchResult result
+            (λ _. self.new ≡ with_more (strings_at bytes.now begin ends.now) self.old)
+            (λ _. self.new ≡ self.old) }
+    {
+        push_texts(&mut self.pending, self.until, bytes, begin, ends)?;
+        self.until += ends.len();
+        Ok(())
+    }
+
+    /// Lets go of the first `n` items that wait.
+    pub fn drop_front(&mut self, n: usize)
+        requires { n ≤ length self.old.items }
+        ensures { self.new ≡ later_items n self.old }
+    {
+        drop_front(&mut self.pending, n, self.until);
+        self.until -= n;
+    }
+
     /// How many bytes `n` items have, from `from` on.
     pub fn size(&self, from: usize, n: usize) -> usize
         requires there { from + n ≤ length self.now.items }
@@ -97,18 +155,6 @@ impl FieldOut {
     {
         self.used = 0;
     }
-}
-
-/// Makes room for so many bytes. Where there is room, nothing is done.
-fn grow(run: &mut Vec<u8>, size: usize) -> Result<(), AllocError>
-    ensures kept { take (length run.old.items) run.new.items ≡ run.old.items }
-    ensures same { size ≤ length run.old.items → length run.new.items ≡ length run.old.items }
-    ensures room { MatchResult result (λ _. size ≤ length run.new.items) (λ _. length run.old.items < size) }
-{
-    if run.len() < size {
-        run.resize(size, 0)?;
-    }
-    Ok(())
 }
 
 /// Writes `n` of `until` items, from `from` on, behind the first `used` bytes of a run, which stay.

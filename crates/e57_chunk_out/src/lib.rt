@@ -5,6 +5,7 @@
 mod bytes;
 mod field_out;
 mod fields;
+mod gathered;
 mod packet;
 mod pending;
 mod pour;

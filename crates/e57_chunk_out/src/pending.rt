@@ -1,14 +1,15 @@
 //! Items of one field that wait.
 
-ghost use Rattle.std.specs.Prelude.{FitsSigned, ◌^◌, ◌≡◌, ◌⊎◌, ℕ, ◌+◌, ◌-◌, ◌*◌, ◌/◌, ◌<◌, ◌≤◌, ◌≤ℤ◌, ◌++◌, List, [], ◌∷◌, length, map, take, drop, slice_index_or, IfOk};
+ghost use Rattle.std.specs.Prelude.{FitsSigned, ◌^◌, ◌≡◌, ◌⊎◌, ℕ, ◌+◌, ◌-◌, ◌*◌, ◌/◌, ◌<◌, ◌≤◌, ◌≤ℤ◌, ◌++◌, List, [], ◌∷◌, length, map, take, drop, slice_index_or, IfOk, MatchResult};
 ghost use Rattle.std.specs.Int.{w64};
 ghost use Rattle.e57_layout.specs.Values.{item_kind, IsValidField, ItemKind, Value, IsKind};
 ghost use Rattle.e57_layout.specs.Widths.{width as width_of};
 ghost use Rattle.e57_layout.specs.Items.{AreItems, field_bytes};
-ghost use Rattle.e57_chunk_out.specs.Texts.{AreEnds};
-ghost use Rattle.e57_chunk_out.specs.Waiting.{kind_in, items_in, part, IsPending};
+ghost use Rattle.e57_chunk_out.specs.Texts.{strings_at, AreEnds};
+ghost use Rattle.e57_chunk_out.specs.Waiting.{most_waiting, kind_in, items_in, part, IsPending, IsPushed, IsLetGo};
 
-use crate::bytes::clear;
+use crate::bytes::{clear, let_go, place};
+use crate::gathered::{add_texts, begin_of, drop_texts};
 use crate::texts::{all_texts_size, write_texts};
 use byteorder::{ByteOrder, LittleEndian};
 use e57_lanes::pack;
@@ -96,6 +97,85 @@ fn new_texts(alloc: Global) -> Result<Pending, AllocError>
     })
 }
 
+/// Puts integers behind the first `until` items.
+pub fn push_ints(pending: &mut Pending, until: usize, values: &[i64])
+    requires pending { IsPending pending.old until }
+    requires items { AreItems (kind_in pending.old) (map Value.whole values.now) }
+    requires few { until + length values.now ≤ most_waiting }
+    ensures { IsPushed pending.old until (map Value.whole values.now) pending.new }
+{
+    match pending {
+        Pending::Ints { items, .. } => place(items, until, values),
+        _ => {}
+    }
+}
+
+/// Puts words of 32 bits behind the first `until` items.
+pub fn push_words(pending: &mut Pending, until: usize, values: &[u32])
+    requires pending { IsPending pending.old until }
+    requires kind { kind_in pending.old ≡ ItemKind.words 32 }
+    requires few { until + length values.now ≤ most_waiting }
+    ensures { IsPushed pending.old until (map Value.word values.now) pending.new }
+{
+    match pending {
+        Pending::Bits32 { items } => place(items, until, values),
+        _ => {}
+    }
+}
+
+/// Puts words of 64 bits behind the first `until` items.
+pub fn push_long_words(pending: &mut Pending, until: usize, values: &[u64])
+    requires pending { IsPending pending.old until }
+    requires kind { kind_in pending.old ≡ ItemKind.words 64 }
+    requires few { until + length values.now ≤ most_waiting }
+    ensures { IsPushed pending.old until (map Value.word values.now) pending.new }
+{
+    match pending {
+        Pending::Bits64 { items } => place(items, until, values),
+        _ => {}
+    }
+}
+
+/// Puts strings behind the first `until` items, which end here in the bytes, one behind another, the first beginning at
+/// `begin`.
+pub fn push_texts(
+    pending: &mut Pending,
+    until: usize,
+    bytes: &[u8],
+    begin: usize,
+    ends: &[u64],
+) -> Result<(), AllocError>
+    requires pending { IsPending pending.old until }
+    requires ends { AreEnds (length bytes.now) begin ends.now }
+    requires kind { kind_in pending.old ≡ ItemKind.strings }
+    requires few { until + length ends.now ≤ most_waiting }
+    ensures { MatchResult result
+        (λ _. IsPushed pending.old until (strings_at bytes.now begin ends.now) pending.new)
+        (λ _. IsPushed pending.old until [] pending.new) }
+{
+    match pending {
+        Pending::Texts {
+            bytes: held,
+            ends: held_ends,
+        } => add_texts(held, held_ends, until, bytes, begin, ends),
+        _ => Ok(()),
+    }
+}
+
+/// Lets go of the first `n` of `until` items. Those behind them move to the front.
+pub fn drop_front(pending: &mut Pending, n: usize, until: usize)
+    requires pending { IsPending pending.old until }
+    requires there { n ≤ until }
+    ensures { IsLetGo pending.old n until pending.new }
+{
+    match pending {
+        Pending::Ints { items, .. } => let_go(items, n, until),
+        Pending::Bits32 { items } => let_go(items, n, until),
+        Pending::Bits64 { items } => let_go(items, n, until),
+        Pending::Texts { bytes, ends } => drop_texts(bytes, ends, n, until),
+    }
+}
+
 /// How many bytes `n` items from `from` on have as they are written.
 pub fn written_size(pending: &Pending, from: usize, n: usize, until: usize) -> usize
     requires pending { IsPending pending.now until }
@@ -176,15 +256,4 @@ fn write_long_words(values: &[u64], out: &mut [u8])
     ensures { out.new ≡ field_bytes (ItemKind.words 64) (map Value.word values.now) }
 {
     LittleEndian::write_u64_into(values, out);
-}
-
-/// Where string `k` begins.
-fn begin_of(ends: &[u64], k: usize) -> usize
-    requires { k ≤ length ends.now }
-    ensures { result ≡ slice_index_or (0 ∷ ends.now) k 0 }
-{
-    if k == 0 {
-        return 0;
-    }
-    ends[k - 1] as usize
 }

@@ -59,7 +59,7 @@ pub fn write_texts(bytes: &[u8], begin: usize, ends: &[u64], out: &mut [u8])
 
 /// The bytes from `begin` on and before `end`.
 #[inline]
-fn piece(bytes: &[u8], begin: usize, end: usize) -> &[u8]
+pub fn piece(bytes: &[u8], begin: usize, end: usize) -> &[u8]
     requires { begin ≤ end × end ≤ length bytes.now }
     ensures { result.now ≡ take (end - begin) (drop begin bytes.now) }
 {
