@@ -56,10 +56,10 @@ group-within n e some groups whole =
     regroup a q = grind arith
 
 module _ (kinds : List ItemKind) (n count : ℕ) (cs : List (List Value)) (some : 0 < n) (groups : n % 8 ≡ 0) (are : AreColumns kinds count cs) where
-  first-are : (e : ℕ) → e ≤ count → AreColumns kinds e (first_records e cs)
+  pub first-are : (e : ℕ) → e ≤ count → AreColumns kinds e (first_records e cs)
   first-are e h = let least : min e count ≡ e = omega arith in subst (λ m. AreColumns kinds m (first_records e cs)) least (first_records-columns kinds e count cs are)
 
-  more-are : (e k : ℕ) → e + k ≤ count → AreColumns kinds k (first_records k (later_records e cs))
+  pub more-are : (e k : ℕ) → e + k ≤ count → AreColumns kinds k (first_records k (later_records e cs))
   more-are e k h =
       let least : min k (count - e) ≡ k = omega arith in
       subst (λ m. AreColumns kinds m (first_records k (later_records e cs))) least (first_records-columns kinds k (count - e) (later_records e cs) (later_records-columns kinds e count cs are))
@@ -84,8 +84,20 @@ module _ (kinds : List ItemKind) (n count : ℕ) (cs : List (List Value)) (some 
       (front-both (packets_so_far kinds n e (first_records e cs)) (packets_so_far kinds n (e + 8 * m) (first_records (e + 8 * m) cs)) (packets_so_far kinds n (e + 8 * m + 8) (first_records (e + 8 * m + 8) cs))
       (front-groups m e whole (omega arith)) (front-next (e + 8 * m) 8 here (omega arith) (omega arith)))
 
+  -- any number more
+  pub front-any : (e k : ℕ) → e % 8 ≡ 0 → e + k ≤ count → IsFront (packets_so_far kinds n e (first_records e cs)) (packets_so_far kinds n (e + k) (first_records (e + k) cs))
+  front-any e k whole h =
+      let m = k / 8 in
+      let parts : 8 * (k / 8) + k % 8 ≡ k = div-add-mod k 8 in
+      let sum : e + 8 * m + k % 8 ≡ e + k = omega (arith, parts) in
+      let here : (e + 8 * m) % 8 ≡ 0 = omega arith in
+      let few : k % 8 ≤ 8 = omega (arith, parts) in
+      front-both (packets_so_far kinds n e (first_records e cs)) (packets_so_far kinds n (e + 8 * m) (first_records (e + 8 * m) cs)) (packets_so_far kinds n (e + k) (first_records (e + k) cs))
+      (front-groups m e whole (omega (arith, parts)))
+      (subst (λ (j : ℕ). IsFront (packets_so_far kinds n (e + 8 * m) (first_records (e + 8 * m) cs)) (packets_so_far kinds n j (first_records j cs))) sum (front-next (e + 8 * m) (k % 8) here (omega (arith, parts)) few))
+
   -- the packets so far and the run are the data
-  data-so-far : AreColumns kinds count cs → data_spelled kinds n count cs ≡ packets_so_far kinds n count cs ++ flagged (is_nil (open_packets kinds n count cs)) (flushed (run_so_far kinds n count cs))
+  pub data-so-far : AreColumns kinds count cs → data_spelled kinds n count cs ≡ packets_so_far kinds n count cs ++ flagged (is_nil (open_packets kinds n count cs)) (flushed (run_so_far kinds n count cs))
   unfolding packets_so_far open_packets run_so_far
   data-so-far all =
       data-open kinds n count cs some all

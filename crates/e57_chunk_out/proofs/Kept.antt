@@ -40,11 +40,11 @@ is-number (integers low high) = Unit {0}
 is-number (words w) = Unit {0}
 is-number strings = ⊥
 
-integers-no : (low high : ℤ) → integers low high ≡ strings → ⊥
+pub integers-no : (low high : ℤ) → integers low high ≡ strings → ⊥
 unfolding is-number
 integers-no low high e = subst is-number e tt
 
-words-no : (w : ℕ) → words w ≡ strings → ⊥
+pub words-no : (w : ℕ) → words w ≡ strings → ⊥
 unfolding is-number
 words-no w e = subst is-number e tt
 

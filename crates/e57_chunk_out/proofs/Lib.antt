@@ -14,3 +14,12 @@ pub mod Keeping
 pub mod Pouring
 pub mod Fronts
 pub mod Grouping
+pub mod RunLaws
+pub mod Advancing
+pub mod Begun
+pub mod Chunking
+pub mod Rows
+pub mod Blocks
+pub mod Ending
+pub mod Closings
+pub mod Adding

@@ -27,11 +27,11 @@ cut-all n ss h few fit =
 abbrev pub left_over : ℕ → ℕ → List (List ℕ) → List (List (List ℕ))
 left_over room skip ss = pour (total (behind skip ss)) room (behind skip ss)
 
-flagged-bytes : (first : Bool) (p : List (List ℕ)) (ps : List (List (List ℕ))) → packets_bytes (flagged first (p ∷ ps)) ≡ data_packet first p ++ packets_bytes (flagged false ps)
+pub flagged-bytes : (first : Bool) (p : List (List ℕ)) (ps : List (List (List ℕ))) → packets_bytes (flagged first (p ∷ ps)) ≡ data_packet first p ++ packets_bytes (flagged false ps)
 unfolding flagged packet_bytes
 flagged-bytes first p ps = refl
 
-nothing-flagged : (first : Bool) → packets_bytes (flagged first []) ≡ []
+pub nothing-flagged : (first : Bool) → packets_bytes (flagged first []) ≡ []
 unfolding flagged
 nothing-flagged first = refl
 

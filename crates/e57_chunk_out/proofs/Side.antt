@@ -1,7 +1,7 @@
 -- Laws of fields side by side.
-use Rattle.std.proofs.Common.{◌≡◌, ℕ, zero, suc, ◌-◌, ◌<◌, ◌≤◌, true, false, List, [], ◌∷◌, ◌++◌, length, map, take, drop, get_or, sym, ap, subst, ◌∙◌, arith, inl, inr}
+use Rattle.std.proofs.Common.{◌≡◌, ℕ, zero, suc, ◌-◌, ◌<◌, ◌≤◌, true, false, List, [], ◌∷◌, ◌++◌, length, map, take, drop, get_or, sym, ap, subst, ◌∙◌, arith, inl, inr, ⊎_elim, Bool}
 use Rattle.std.specs.List.{AllByRecursion}
-use Rattle.std.proofs.lemmas.Bool.{le-leb, lt-leb}
+use Rattle.std.proofs.lemmas.Bool.{cases_lt, le-leb, lt-leb}
 use Rattle.std.proofs.lemmas.List.{length-map, get_or-map, drop_more, append-nil, take_all, drop_all, get_or-append_right, length-take-le, length-append, length-drop}
 use Rattle.e57_layout.specs.Packets.{total, data_size}
 use Rattle.e57_layout.specs.Packing.{fits_packet, room_for}
@@ -57,6 +57,15 @@ unfolding fits_packet
 within-true ss n h few within =
     let size = data_size_is ss in
     le-leb (data_size ss) 65536 (omega arith)
+
+-- streams that don't fit have many bytes
+pub over-total : (ss : List (List ℕ)) (n : ℕ) → length ss ≡ n → n ≤ 512 → fits_packet ss ≡ false → room_for n < total ss
+over-total ss n h few over = ⊎_elim (λ more. more) (λ within. absurd (no-fit (sym (within-true ss n h few (omega (arith, within))) ∙ over))) (cases_lt (room_for n) (total ss)) where
+  no-fit : true ≡ false → ⊥
+  no-fit e = subst if_so e tt where
+    if_so : Bool → Type 0
+    if_so true = Unit {0}
+    if_so false = ⊥
 
 -- ---- each field in turn
 

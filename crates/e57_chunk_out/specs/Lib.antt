@@ -5,3 +5,8 @@ pub mod Cutting
 pub mod SideBySide
 pub mod Standing
 pub mod Grouping
+pub mod Going
+pub mod Turns
+pub mod Sections
+pub mod CloudCalls
+pub mod Clouds

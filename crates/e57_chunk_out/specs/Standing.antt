@@ -9,12 +9,9 @@ use Rattle.e57_layout.specs.declared.packet.Entry.{Entry}
 use Rattle.e57_page.specs.Place.{payload_length}
 use Rattle.e57_page_out.specs.Sealed.{filled, pages_for}
 use Rattle.e57_page_out.specs.Writing.{Writing}
+use Rattle.e57_chunk_out.specs.Sections.{IsAsLeft}
+use Rattle.e57_chunk_out.specs.declared.section.Begun.{Begun}
 use Rattle.e57_chunk_out.specs.Progress.{packets_so_far, open_packets, run_so_far, is_nil}
-
--- where its section begins: the page, and the size of the file as the last call left it
-pub record SectionBegun : Type 0 where
-  pub page : ℕ
-  pub size : ℕ
 
 pub record Cloud : Type 0 where
   pub kinds : List ItemKind
@@ -30,7 +27,8 @@ pub record Cloud : Type 0 where
   -- a packet of the open chunk was put
   pub is_begun : Bool
   pub entries : List Entry
-  pub section : Option SectionBegun
+  -- where its section begins: the page, and the size of the file as the last call left it
+  pub section : Option Begun
   pub is_spent : Bool
 
 -- how many of n records are in whole groups
@@ -58,7 +56,7 @@ pub record IsUnbegun {T : Type 0} (before : Option (List ℕ)) (start : ℕ) (c 
   pub size : out.size ≡ start
   pub held : out.held ≡ None
 
-abbrev pub IsPut : {T : Type 0} → Option (List ℕ) → ℕ → List (List Value) → Cloud → Writing T → Option SectionBegun → Type 0
+abbrev pub IsPut : {T : Type 0} → Option (List ℕ) → ℕ → List (List Value) → Cloud → Writing T → Option Begun → Type 0
 IsPut before start cs c out None = IsUnbegun before start c out
 IsPut before start cs c out (Some s) =
     (s.page ≡ pages_for start) × (out.size ≡ s.size) × IsUnderWay before start c.kinds c.chunk (in_groups c.count) cs c.run c.is_begun c.entries out
@@ -73,7 +71,4 @@ pub record Stands {T : Type 0} (before : Option (List ℕ)) (start : ℕ) (cs : 
 
 -- the file is as the last call on the cloud left it: no page is held before the first one
 abbrev pub IsHere : {T : Type 0} → Cloud → Writing T → Type 0
-IsHere c out = is_here c.section out where
-  is_here : {T : Type 0} → Option SectionBegun → Writing T → Type 0
-  is_here None out = out.held ≡ None
-  is_here (Some s) out = (out.held ≡ Some s.page) × (out.size ≡ s.size)
+IsHere c out = IsAsLeft c.section out

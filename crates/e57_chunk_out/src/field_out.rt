@@ -89,8 +89,8 @@ impl FieldOut {
         self.until += values.len();
     }
 
-    /// Appends strings, which end here in the bytes, one behind another, the first beginning at `begin`. Where memory
-    /// is refused, what waits stays.
+    /// Appends strings, which end here in the bytes, one behind another, the first beginning at `begin`. Where memory is
+    /// refused, what waits stays.
     pub fn push_texts(&mut self, bytes: &[u8], begin: usize, ends: &[u64]) -> Result<(), AllocError>
         requires ends { AreEnds (length bytes.now) begin ends.now }
         requires kind { self.old.kind ≡ ItemKind.strings }

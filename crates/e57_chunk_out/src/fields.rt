@@ -3,7 +3,7 @@
 ghost use Rattle.std.specs.Prelude.{◌≡◌, ◌⊎◌, ◌+◌, ◌*◌, ◌%◌, ◌<◌, ◌≤◌, true, false, length, map, min, MatchResult};
 ghost use Rattle.std.specs.List.{AllByRecursion};
 ghost use Rattle.e57_layout.specs.Packing.{fits_packet};
-ghost use Rattle.e57_chunk_out.specs.Waiting.{taken, cleared};
+ghost use Rattle.e57_chunk_out.specs.Waiting.{taken, cleared, later_items};
 ghost use Rattle.e57_chunk_out.specs.Cutting.{streams_of};
 ghost use Rattle.e57_chunk_out.specs.SideBySide.{Has, HasRoomFor, HasText};
 
@@ -76,5 +76,15 @@ pub fn clear_all(fields: &mut [FieldOut])
 {
     for k in 0..fields.len() {
         fields[k].clear();
+    }
+}
+
+/// Drops the first `n` items of each field.
+pub fn drop_all(fields: &mut [FieldOut], n: usize)
+    requires { AllByRecursion (Has n) fields.old }
+    ensures { fields.new ≡ map (later_items n) fields.old }
+{
+    for k in 0..fields.len() {
+        fields[k].drop_front(n);
     }
 }

@@ -21,9 +21,8 @@ pub fn add_texts(
     requires held { AreEnds (length held.old.items) 0 (take until held_ends.old) }
     requires ends { AreEnds (length bytes.now) begin ends.now }
     requires room { until + length ends.now ≤ length held_ends.old }
-    ensures { let there = strings_at held.old.items 0 (take until held_ends.old) in
-        let more = strings_at bytes.now begin ends.now in MatchResult result
-        (λ _. AreGathered held.new.items (take (until + length ends.now) held_ends.new) (there ++ more))
+    ensures { let there = strings_at held.old.items 0 (take until held_ends.old) in MatchResult result
+        (λ _. AreGathered held.new.items (take (until + length ends.now) held_ends.new) (there ++ strings_at bytes.now begin ends.now))
         (λ _. AreGathered held.new.items (take until held_ends.new) there) }
 {
     let used = begin_of(held_ends, until);

@@ -2,6 +2,7 @@
 //! gathered into groups of eight, groups into packets, packets into chunks, and an index of the chunks stands behind them.
 #![tactic(auto)]
 
+mod block;
 mod bytes;
 mod field_out;
 mod fields;
@@ -9,4 +10,10 @@ mod gathered;
 mod packet;
 mod pending;
 mod pour;
+mod run;
+mod section;
 mod texts;
+mod theorems;
+mod turn;
+
+pub use theorems::{items_stand, new_cloud_stands};
