@@ -1,5 +1,5 @@
 -- What is put of an accepted file.
-use Rattle.std.specs.Prelude.{◌≡◌, ℕ, zero, suc, ◌+◌, ◌<◌, ◌≤◌, ◌⊎◌, List, [], ◌∷◌, ◌++◌, map, length, slice_get, slice_index_or, get_or, nat_lt, if◌then◌else◌, Bool, true, false, pos, Option, Some, None, Result, Ok, Err}
+use Rattle.std.specs.Prelude.{◌≡◌, ℕ, zero, suc, ◌+◌, ◌<◌, ◌≤◌, List, [], ◌∷◌, ◌++◌, map, length, slice_get, get_or, nat_lt, if◌then◌else◌, Bool, true, false, pos, Option, Some, None, Result, Ok, Err}
 use Rattle.std.specs.List.{AllByRecursion, range_with_len}
 use Rattle.std.specs.Option.{option_or}
 use Rattle.std.proofs.Common.{refl, sym, subst, ap, ◌∙◌, arith, inl, inr, ⊎_elim}
@@ -8,7 +8,7 @@ use Rattle.std.proofs.lemmas.Option.{slice_get-get_or, get_or_from_slice_get}
 use Rattle.e57_base.specs.declared.fault.Fault.{Fault}
 use Rattle.e57_base.specs.declared.fault.AskFault.{AskFault}
 use Rattle.e57_base.proofs.Options.{option_or_parts}
-use Rattle.e57_layout.specs.Values.{Value, whole, item_kind}
+use Rattle.e57_layout.specs.Values.{Value, whole}
 use Rattle.e57_layout.specs.declared.field.Field.{Field}
 use Rattle.e57_page.specs.File.{opening_fault, logical_size}
 use Rattle.e57_page.specs.Header.{header_of}
@@ -23,23 +23,23 @@ use Rattle.e57_cloud.specs.Cloud.{Leaf, Cloud as StatedCloud, cloud_fault, recor
 use Rattle.e57_cloud.specs.PathItem.{path_item, and_then}
 use Rattle.e57_tree.specs.declared.items.Cloud.{Cloud}
 use Rattle.e57_tree.specs.Held.{clouds_of, cloud_fields, clouds_among, fields_among}
-use Rattle.e57_file.specs.Text.{xml_fault, section_text, IsTextFault}
+use Rattle.e57_file.specs.Text.{xml_fault, section_text}
 use Rattle.e57_file.specs.Opened.{HasXmlTree, IsTreeFault}
 use Rattle.e57_verdict.specs.Content.{Content, IsContent}
-use Rattle.e57_verdict.specs.Things.{Body, body_of, things_at, things_in, things_fault, thing_fault, thing_at, cloud_thing}
-use Rattle.e57_verdict.specs.Verdict.{all_pages_fault, fault_before_text, fault_behind_text, HasTree, IsSoundFile, IsFileFault, IsVerdict, Verdict, accepted, refused}
+use Rattle.e57_verdict.specs.Things.{Body, body_of, things_at, things_in, things_fault, thing_fault, thing_at}
+use Rattle.e57_verdict.specs.Verdict.{all_pages_fault, fault_before_text, fault_behind_text, IsFileFault, IsVerdict, Verdict, accepted, refused}
 use Rattle.e57_verdict.proofs.Laws.Opening.{before-opening, before-section}
 use Rattle.e57_blocks.specs.Fields.{asked_of, field_at, leaf_of, no_field}
 use Rattle.e57_base.specs.declared.fault.AskFault.TheVariants as ask
 use Rattle.std.proofs.lemmas.Bool.{ltb-false}
 use Rattle.e57_nodes.specs.Places.{without_places}
 use Rattle.e57_rows.specs.Cells.{cell, csv_row}
-use Rattle.e57_rows.specs.Rows.{cells_of, heading_text, rows_text, rows_fault, text_before, fault_before}
-use Rattle.e57_show.specs.Blob.{HasSoundTree}
-use Rattle.e57_show.specs.Extract.{Asked, Selection, Selects, LacksAsked, IsRowsFault, stated, cloud_row, selected_row, selected_rows, selected_fault, selected_text, numbers_of, asked_end, asked_count, select_from, select_records, select, rows_streamed}
+use Rattle.e57_rows.specs.Rows.{cells_of, heading_text, shown, rows_text, rows_fault, fault_before}
+use Rattle.e57_rows.specs.Shown.{show_of}
+use Rattle.e57_show.specs.Extract.{Asked, Selection, Selects, LacksAsked, IsRowsFault, stated, cloud_row, selected_row, numbers_of, asked_end, asked_count, lacking, select_from, select_range, select_records, select, rows_streamed}
 use Rattle.e57_show.specs.Streaming.{IsWhole}
 use Rattle.e57_show.proofs.Selecting.{named-all, within-cloud}
-use Rattle.e57_headline.specs.Headline.{records_among, cloud_records, record_item, record_row, records_text, IsAsked, ShowsRecords}
+use Rattle.e57_headline.specs.Headline.{records_among, cloud_records, record_item, record_row, IsAsked, ShowsRecords}
 
 -- ---- laws that are called
 
@@ -110,14 +110,15 @@ unfolding cells_of
 cells-agree p q fields [] all same = refl
 cells-agree p q fields (f ∷ numbers) all same = rw (same f all.0, cells-agree p q fields numbers all.1 same) refl
 
-row-agrees : (file : List ℕ) (content : Content) (k : ℕ) (s : Selection) (i : ℕ) → ByRecord → IsSoundCloud file content.bodies k (stated s) → AllByRecursion (λ f. f < length s.fields) s.numbers → i < s.cloud.count → selected_row file s i ≡ record_row (cloud_records content k) (asked_of s.fields s.numbers) i
+row-agrees : (file : List ℕ) (content : Content) (k : ℕ) (s : Selection) (i : ℕ) → ByRecord → IsSoundCloud file content.bodies k (stated s) → AllByRecursion (λ f. f < length s.fields) s.numbers → i < s.cloud.count → selected_row file s i ≡ record_row (show_of s.decimal s.fields) (cloud_records content k) (asked_of s.fields s.numbers) i
 unfolding cloud_row record_row
 row-agrees file content k s i by_record cloud all below =
+    let show = show_of s.decimal s.fields in
     let records : cloud_records content k ≡ records_of file (stated s) = get_or_from_slice_get (records_among content.bodies) k (records_of file (stated s)) [] cloud.records in
     ap (λ (r : Result (List (List ℕ)) Fault). and_then r (λ cells. Ok (csv_row cells)))
-    (cells-agree (λ f leaf. path_item file (stated s) f leaf i) (λ f leaf. Ok (record_item (cloud_records content k) i f)) s.fields s.numbers all
-    (λ f there. by_record file (stated s) f (leaf_of (field_at s.fields f)) i (whole (pos 0)) cloud.sound (leaf-there s.fields f there) below
-    ∙ ap (λ (columns : List (List Value)). Ok (record_item columns i f)) (sym records)))
+    (cells-agree (λ f leaf. shown show f (path_item file (stated s) f leaf i)) (λ f leaf. Ok (show f (record_item (cloud_records content k) i f))) s.fields s.numbers all
+    (λ f there. ap (shown show f) (by_record file (stated s) f (leaf_of (field_at s.fields f)) i (whole (pos 0)) cloud.sound (leaf-there s.fields f there) below)
+    ∙ ap (λ (columns : List (List Value)). Ok (show f (record_item columns i f))) (sym records)))
 
 -- ---- records one after another
 
@@ -138,27 +139,27 @@ cells-sound item ((f, leaf) ∷ asked) =
     let rest = cells-sound item asked in
     (cell leaf.kind (item f) ∷ rest.0, ap (λ (r : Result (List (List ℕ)) Fault). and_then r (λ cells. Ok (cell leaf.kind (item f) ∷ cells))) rest.1)
 
-row-sound : (columns : List (List Value)) (asked : List (ℕ × Leaf)) (i : ℕ) → (text : List ℕ) × (record_row columns asked i ≡ Ok text)
+row-sound : (show : ℕ → Value → Value) (columns : List (List Value)) (asked : List (ℕ × Leaf)) (i : ℕ) → (text : List ℕ) × (record_row show columns asked i ≡ Ok text)
 unfolding record_row
-row-sound columns asked i =
-    let cells = cells-sound (record_item columns i) asked in
+row-sound show columns asked i =
+    let cells = cells-sound (λ f. show f (record_item columns i f)) asked in
     (csv_row cells.0, ap (λ (r : Result (List (List ℕ)) Fault). and_then r (λ cells. Ok (csv_row cells))) cells.1)
 
-rows-sound : (columns : List (List Value)) (asked : List (ℕ × Leaf)) (i n : ℕ) → rows_fault (record_row columns asked) i n ≡ None
+rows-sound : (show : ℕ → Value → Value) (columns : List (List Value)) (asked : List (ℕ × Leaf)) (i n : ℕ) → rows_fault (record_row show columns asked) i n ≡ None
 unfolding rows_fault
-rows-sound columns asked i zero = refl
-rows-sound columns asked i (suc n) =
-    let row = row-sound columns asked i in
-    ap (λ (r : Result (List ℕ) Fault). fault_before r (rows_fault (record_row columns asked) (i + 1) n)) row.1 ∙ rows-sound columns asked (i + 1) n
+rows-sound show columns asked i zero = refl
+rows-sound show columns asked i (suc n) =
+    let row = row-sound show columns asked i in
+    ap (λ (r : Result (List ℕ) Fault). fault_before r (rows_fault (record_row show columns asked) (i + 1) n)) row.1 ∙ rows-sound show columns asked (i + 1) n
 
 pub shows : (file : List ℕ) (content : Content) (k : ℕ) (s : Selection) → OneTree → ByRecord → IsContent file content → IsAsked file k s → ShowsRecords file content k s
 shows file content k s one by_record is asked =
     let cloud = asked-cloud file content k s one is asked in
     let range = asked.range in
     let same = λ (j : ℕ) (below : j < s.from + s.count). row-agrees file content k s j by_record cloud asked.numbers (omega (arith, below, range)) in
-    let row = record_row (cloud_records content k) (asked_of s.fields s.numbers) in
+    let row = record_row (show_of s.decimal s.fields) (cloud_records content k) (asked_of s.fields s.numbers) in
     record {
-      sound = fault-agrees (selected_row file s) row s.from s.count same ∙ rows-sound (cloud_records content k) (asked_of s.fields s.numbers) s.from s.count;
+      sound = fault-agrees (selected_row file s) row s.from s.count same ∙ rows-sound (show_of s.decimal s.fields) (cloud_records content k) (asked_of s.fields s.numbers) s.from s.count;
       text = ap (λ (t : List ℕ). heading_text s.fields s.numbers ++ t) (text-agrees (selected_row file s) row s.from s.count same);
     }
 
@@ -181,12 +182,12 @@ pub record IsPicked (asked : Asked) (at_cloud : Option Cloud) (at_fields : Optio
   pub numbers : AllByRecursion (λ f. f < length s.fields) s.numbers
   pub range : s.from + s.count ≤ s.cloud.count
 
-picked-records : (asked : Asked) (cloud : Cloud) (fields : List Field) (r : Result (List ℕ) ℕ) (s : Selection) → numbers_of fields asked.names ≡ r → select_records cloud fields asked.from asked.count r ≡ Ok s → IsPicked asked (Some cloud) (Some fields) s
-picked-records asked cloud fields (Err j) s at_numbers is = absurd cc
-picked-records asked cloud fields (Ok numbers) s at_numbers is = by_range (nat_lt cloud.count (asked_end asked.from asked.count)) refl is
+picked-range : (asked : Asked) (cloud : Cloud) (fields : List Field) (numbers : List ℕ) (lacks : Option ℕ) (s : Selection) → numbers_of fields asked.names ≡ Ok numbers → select_range cloud fields asked numbers lacks ≡ Ok s → IsPicked asked (Some cloud) (Some fields) s
+picked-range asked cloud fields numbers (Some j) s at_numbers is = absurd cc
+picked-range asked cloud fields numbers None s at_numbers is = by_range (nat_lt cloud.count (asked_end asked.from asked.count)) refl is
   where
     all : Selection
-    all = record { cloud = cloud; fields = fields; numbers = numbers; from = asked.from; count = asked_count cloud.count asked.from asked.count }
+    all = record { cloud = cloud; fields = fields; numbers = numbers; from = asked.from; count = asked_count cloud.count asked.from asked.count; decimal = asked.decimal }
 
     by_range : (b : Bool) → nat_lt cloud.count (asked_end asked.from asked.count) ≡ b → ◌≡◌ {A = Result Selection AskFault} (if b then Err (ask.Range (asked_end asked.from asked.count) cloud.count) else Ok all) (Ok s) → IsPicked asked (Some cloud) (Some fields) s
     by_range true test is = absurd cc
@@ -195,6 +196,10 @@ picked-records asked cloud fields (Ok numbers) s at_numbers is = by_range (nat_l
         let low = ltb-false cloud.count (asked_end asked.from asked.count) test in
         subst (λ (x : Selection). IsPicked asked (Some cloud) (Some fields) x) same
         (record { cloud = refl; fields = refl; numbers = numbers-there fields asked.names numbers at_numbers; range = within-cloud cloud.count asked.from asked.count low })
+
+picked-records : (asked : Asked) (cloud : Cloud) (fields : List Field) (r : Result (List ℕ) ℕ) (s : Selection) → numbers_of fields asked.names ≡ r → select_records cloud fields asked r ≡ Ok s → IsPicked asked (Some cloud) (Some fields) s
+picked-records asked cloud fields (Err j) s at_numbers is = absurd cc
+picked-records asked cloud fields (Ok numbers) s at_numbers is = picked-range asked cloud fields numbers (lacking asked.decimal fields numbers) s at_numbers is
 
 picked : (asked : Asked) (have : ℕ) (at_cloud : Option Cloud) (at_fields : Option (List Field)) (s : Selection) → select_from asked have at_cloud at_fields ≡ Ok s → IsPicked asked at_cloud at_fields s
 picked asked have None at_fields s is = absurd cc

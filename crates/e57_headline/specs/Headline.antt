@@ -1,5 +1,5 @@
 -- What is put of an accepted file, as a slice of its content.
-use Rattle.std.specs.Prelude.{◌≡◌, ℕ, ◌+◌, ◌<◌, ◌≤◌, List, [], ◌∷◌, ◌++◌, length, slice_get, slice_index_or, pos, Option, Some, None, Result, Ok}
+use Rattle.std.specs.Prelude.{◌≡◌, ℕ, ◌+◌, ◌<◌, ◌≤◌, List, [], ◌∷◌, ◌++◌, length, slice_get, slice_index_or, pos, Some, None, Result, Ok}
 use Rattle.std.specs.List.{AllByRecursion}
 use Rattle.e57_base.specs.declared.fault.Fault.{Fault}
 use Rattle.e57_layout.specs.Values.{Value, whole}
@@ -10,6 +10,7 @@ use Rattle.e57_verdict.specs.Content.{Content}
 use Rattle.e57_verdict.specs.Things.{Body, records_body, bytes_body}
 use Rattle.e57_blocks.specs.Fields.{asked_of}
 use Rattle.e57_rows.specs.Rows.{heading_text, row_of, rows_text}
+use Rattle.e57_rows.specs.Shown.{show_of}
 use Rattle.e57_show.specs.Blob.{HasSoundTree}
 use Rattle.e57_show.specs.Extract.{Selection, selected_text, selected_fault}
 
@@ -31,13 +32,15 @@ record_item columns i f = slice_index_or (slice_index_or columns f []) i (whole 
 
 -- ---- rows
 
--- the row of the asked fields of record i
-unfoldable pub record_row : List (List Value) → List (ℕ × Leaf) → ℕ → Result (List ℕ) Fault
-record_row columns asked i = row_of (λ f leaf. Ok (record_item columns i f)) asked
+-- the row of the asked fields of record i, of items as they are shown
+unfoldable pub record_row : (ℕ → Value → Value) → List (List Value) → List (ℕ × Leaf) → ℕ → Result (List ℕ) Fault
+record_row show columns asked i = row_of (λ f leaf. Ok (show f (record_item columns i f))) asked
 
 -- the heading, and the rows of the asked records of cloud k of a content
 abbrev pub records_text : Content → ℕ → Selection → List ℕ
-records_text content k s = heading_text s.fields s.numbers ++ rows_text (record_row (cloud_records content k) (asked_of s.fields s.numbers)) s.from s.count
+records_text content k s =
+    heading_text s.fields s.numbers
+    ++ rows_text (record_row (show_of s.decimal s.fields) (cloud_records content k) (asked_of s.fields s.numbers)) s.from s.count
 
 -- ---- what is asked
 
