@@ -1,9 +1,8 @@
 -- Laws of items that are put behind those of a field.
-use Rattle.std.proofs.Common.{◌≡◌, ℕ, zero, suc, ◌+◌, ◌-◌, ◌*◌, ◌/◌, ◌%◌, ◌<◌, ◌≤◌, Bool, true, false, List, [], ◌∷◌, ◌++◌, length, map, set, take, drop, get_or, Option, Some, None, refl, sym, ap, subst, ◌∙◌, arith, inl, inr}
+use Rattle.std.proofs.Common.{◌≡◌, ℕ, zero, suc, ◌+◌, ◌-◌, ◌%◌, ◌<◌, ◌≤◌, Bool, true, false, List, [], ◌∷◌, ◌++◌, length, map, set, take, drop, get_or, Option, Some, None, refl, sym, ap, subst, ◌∙◌, arith, inl, inr}
 use Rattle.std.specs.Prelude.{slice_set, slice_index_or, IfSome}
 use Rattle.std.specs.List.{AllByRecursion}
-use Rattle.std.proofs.lemmas.List.{length-map, length-set, map-set, set-get_or, get_or-map, take-append-le, take_all, length-take, length-drop}
-use Rattle.e57_base.specs.Target.{TargetView}
+use Rattle.std.proofs.lemmas.List.{length-set, map-set, set-get_or, get_or-map, take-append-le, length-take, length-drop}
 use Rattle.e57_layout.specs.Values.{ItemKind, Value, strings}
 use Rattle.e57_layout.specs.Items.{AreColumns}
 use Rattle.e57_layout.specs.Packing.{first_records, later_records, fits_packet}
@@ -13,7 +12,6 @@ use Rattle.e57_chunk_out.specs.Cutting.{streams_of}
 use Rattle.e57_chunk_out.specs.Grouping.{kinds_of, columns_of, run_of, IsFresh}
 use Rattle.e57_chunk_out.specs.Going.{has_run, HasRuns, IsGathered}
 use Rattle.e57_chunk_out.specs.Standing.{Cloud, Stands, IsPut, in_groups}
-use Rattle.e57_chunk_out.specs.Turns.{IsChunked}
 use Rattle.e57_chunk_out.specs.Clouds.{cloud_of, IsCloud}
 use Rattle.e57_chunk_out.specs.CloudCalls.{in_block, new_cloud, waiting_of, with_items}
 use Rattle.e57_chunk_out.specs.declared.section.Begun.{Begun}

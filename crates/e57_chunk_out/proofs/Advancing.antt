@@ -1,9 +1,9 @@
 -- Laws of the steps of a writer: each leads to the run and the packets of the definition.
-use Rattle.std.proofs.Common.{◌≡◌, ℕ, zero, suc, ◌+◌, ◌-◌, ◌*◌, ◌/◌, ◌%◌, ◌<◌, ◌≤◌, min, Bool, true, false, List, [], ◌∷◌, ◌++◌, length, map, Option, Some, None, refl, sym, ap, subst, ◌∙◌, arith, inl, inr, ⊎_elim}
+use Rattle.std.proofs.Common.{◌≡◌, ℕ, zero, suc, ◌+◌, ◌%◌, ◌<◌, ◌≤◌, min, Bool, true, false, List, [], ◌∷◌, ◌++◌, length, map, None, refl, sym, ap, subst, ◌∙◌, arith, inl, inr, ⊎_elim}
 use Rattle.std.specs.Prelude.{not, ◌||◌, nat_lt, ◌⊎◌, Result, Ok, Err, MatchResult}
 use Rattle.std.specs.List.{AllByRecursion}
 use Rattle.std.proofs.lemmas.Bool.{cases_lt, lt-ltb}
-use Rattle.std.proofs.lemmas.List.{append-nil, length-append, length-map}
+use Rattle.std.proofs.lemmas.List.{append-nil, length-append}
 use Rattle.e57_base.specs.Fault.{put_as_write}
 use Rattle.e57_base.specs.Target.{TargetView}
 use Rattle.e57_base.specs.declared.fault.PutFault.{PutFault}
@@ -11,14 +11,13 @@ use Rattle.e57_base.specs.declared.fault.PutFault.TheVariants.{Target, Large}
 use Rattle.e57_base.specs.declared.fault.WriteFault.{WriteFault}
 use Rattle.e57_base.specs.declared.fault.WriteFault.TheVariants.{Target as WriteTarget, Large as WriteLarge, Memory}
 use Rattle.e57_base.proofs.CountLaws.{rose_before}
-use Rattle.e57_layout.specs.Packets.{total, data_size, data_packet}
+use Rattle.e57_layout.specs.Packets.{data_packet}
 use Rattle.e57_layout.specs.Packing.{first_records, later_records, poured, fits_packet, room_for, flushed, chunk_groups}
 use Rattle.e57_layout.specs.Steps.{Step, steps}
 use Rattle.e57_layout.specs.Values.{ItemKind, Value}
-use Rattle.e57_layout.specs.Written.{flagged, packets_bytes, packet_bytes}
-use Rattle.e57_layout.proofs.Laws.Layouts.{data_size_is}
-use Rattle.e57_page_out.specs.Sequences.{Leaves, Loses, Puts}
-use Rattle.e57_page_out.specs.Writing.{Writing, Writes, IsBeingWritten, KeepsTarget, most_bytes}
+use Rattle.e57_layout.specs.Written.{flagged, packets_bytes}
+use Rattle.e57_page_out.specs.Sequences.{Loses, Puts}
+use Rattle.e57_page_out.specs.Writing.{Writing, IsBeingWritten, KeepsTarget, most_bytes}
 use Rattle.e57_page_out.proofs.Sequences.{puts_both, puts_nothing, leaves_later}
 use Rattle.e57_chunk_out.specs.Waiting.{Waiting, taken, cleared, IsWaiting}
 use Rattle.e57_chunk_out.specs.Cutting.{streams_of}
@@ -31,7 +30,7 @@ use Rattle.e57_chunk_out.proofs.RunLaws.{gathered_taken, gathered_cleared, clear
 use Rattle.e57_chunk_out.proofs.Grouping.{kinds-taken, columns-taken, groups-fit, groups-flush, groups-poured}
 use Rattle.e57_chunk_out.proofs.Pouring.{flagged-bytes, nothing-flagged}
 use Rattle.e57_chunk_out.proofs.Side.{grown, length-grown, over-total, has-less}
-use Rattle.e57_chunk_out.proofs.Stepping.{flagged-append, pour-step, steps-none}
+use Rattle.e57_chunk_out.proofs.Stepping.{pour-step}
 
 -- ---- failures
 

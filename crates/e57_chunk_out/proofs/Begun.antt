@@ -1,11 +1,11 @@
 -- Laws of how many chunks are begun.
-use Rattle.std.proofs.Common.{◌≡◌, ℕ, zero, suc, ◌+◌, ◌-◌, ◌*◌, ◌/◌, ◌%◌, ◌<◌, ◌≤◌, refl, sym, ap, ◌∙◌, arith, ⊎_elim, mul-le-mul_left}
+use Rattle.std.proofs.Common.{◌≡◌, ℕ, ◌+◌, ◌-◌, ◌*◌, ◌/◌, ◌%◌, ◌<◌, ◌≤◌, sym, ap, ◌∙◌, arith, ⊎_elim, mul-le-mul_left, min}
 use Rattle.std.proofs.lemmas.Bool.{cases_lt}
 use Rattle.std.proofs.lemmas.Nat.{div-mul-add}
 use Rattle.std.proofs.Math.Nat.{div-add-mod}
 use Rattle.e57_chunk_out.specs.Progress.{in_chunks}
 use Rattle.e57_chunk_out.specs.Turns.{chunks_begun}
-use Rattle.e57_chunk_out.proofs.Turning.{InChunks, in_chunks-parts}
+use Rattle.e57_chunk_out.proofs.Turning.{in_chunks-parts}
 
 -- the records of the open chunk
 pub rest-mod : (n e : ℕ) → e - in_chunks n e ≡ e % n
@@ -24,7 +24,7 @@ begun_at : (n q c : ℕ) → c < n → (n * q + c) / n ≡ q
 begun_at n q c h = ap (λ a. (a + c) / n) (turned n q) ∙ div-mul-add q n c h
 
 -- where whole chunks are full
-begun-whole : (n q : ℕ) → 0 < n → chunks_begun n (n * q) ≡ q
+pub begun-whole : (n q : ℕ) → 0 < n → chunks_begun n (n * q) ≡ q
 begun-whole n q some = begun_at n q (n - 1) (omega arith)
 
 -- and where one is open
@@ -99,3 +99,18 @@ begun-some n e some more =
   where
     times-none : (n : ℕ) → n * 0 ≡ 0
     times-none n = grind arith
+
+-- as it is computed: the quotient, and one more where something is left
+pub begun-ceil : (n most : ℕ) → 0 < n → most / n + min 1 (most % n) ≡ chunks_begun n most
+begun-ceil n most some =
+    let parts : n * (most / n) + most % n ≡ most = div-add-mod most n in
+    ⊎_elim
+    (λ (few : most % n < 1).
+    let whole : most ≡ n * (most / n) = omega (arith, parts, few) in
+    let there : chunks_begun n most ≡ most / n = ap (chunks_begun n) whole ∙ begun-whole n (most / n) some in
+    omega (arith, there, few))
+    (λ (many : 1 ≤ most % n).
+    let below : most % n < n = omega (arith, some) in
+    let there : chunks_begun n most ≡ most / n + 1 = ap (chunks_begun n) (sym parts) ∙ begun-open n (most / n) (most % n) many (omega (arith, below)) in
+    omega (arith, there, many))
+    (cases_lt (most % n) 1)

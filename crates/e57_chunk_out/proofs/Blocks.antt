@@ -1,39 +1,30 @@
 -- Laws of a block: with it the cloud and the file stand for more records.
-use Rattle.std.proofs.Common.{◌≡◌, ℕ, zero, suc, ◌+◌, ◌-◌, ◌*◌, ◌/◌, ◌%◌, ◌<◌, ◌≤◌, Bool, true, false, List, [], ◌∷◌, ◌++◌, length, map, drop, take, get_or, replicate, Option, Some, None, is_some, refl, sym, ap, subst, ◌∙◌, arith, inl, inr}
-use Rattle.std.specs.Prelude.{not, slice_index_or, IfSome}
+use Rattle.std.proofs.Common.{◌≡◌, ℕ, zero, suc, ◌+◌, ◌-◌, ◌*◌, ◌/◌, ◌<◌, ◌≤◌, Bool, true, false, List, [], ◌∷◌, ◌++◌, length, map, drop, get_or, replicate, Option, Some, None, refl, sym, ap, ◌∙◌, arith, inl, inr}
+use Rattle.std.specs.Prelude.{slice_index_or}
 use Rattle.std.specs.List.{AllByRecursion}
 use Rattle.std.specs.Option.{option_map}
 use Rattle.std.proofs.lemmas.List.{length-map, length-drop, take_all}
-use Rattle.std.proofs.Math.Nat.{zero-div, div-add-mod}
-use Rattle.e57_base.specs.Target.{TargetView}
-use Rattle.e57_base.specs.declared.fault.WriteFault.{WriteFault}
+use Rattle.std.proofs.Math.Nat.{zero-div}
 use Rattle.e57_layout.specs.Values.{ItemKind, Value}
-use Rattle.e57_layout.specs.Items.{AreColumns, AreItems, IsItem}
-use Rattle.e57_layout.specs.Packing.{first_records, later_records, join_columns, chunk_groups, fits_packet}
+use Rattle.e57_layout.specs.Items.{AreColumns, AreItems}
+use Rattle.e57_layout.specs.Packing.{first_records, later_records, chunk_groups, fits_packet}
 use Rattle.e57_layout.specs.Steps.{Step, steps}
 use Rattle.e57_layout.specs.Written.{Spelled, packets_bytes, flagged, data_spelled, chunks_spelled, chunk_entries, entries_for}
 use Rattle.e57_layout.specs.declared.packet.Entry.{Entry}
-use Rattle.e57_layout.proofs.Laws.Blocks.{blocks-none, join_columns-columns}
+use Rattle.e57_layout.proofs.Laws.Blocks.{blocks-none}
 use Rattle.e57_page_out.specs.Sealed.{filled, pages_for}
-use Rattle.e57_page_out.specs.Writing.{Writing, Writes, KeepsTarget, IsBeingWritten, most_bytes}
-use Rattle.e57_page_out.proofs.WritingLaws.{keeps_none, keeps_both}
+use Rattle.e57_page_out.specs.Writing.{Writing}
 use Rattle.e57_chunk_out.specs.Waiting.{Waiting, IsWaiting, later_items}
 use Rattle.e57_chunk_out.specs.Cutting.{streams_of}
-use Rattle.e57_chunk_out.specs.SideBySide.{Has, HasText}
+use Rattle.e57_chunk_out.specs.SideBySide.{Has}
 use Rattle.e57_chunk_out.specs.Grouping.{kinds_of, columns_of, run_of, IsFresh}
-use Rattle.e57_chunk_out.specs.Going.{has_run, HasRuns, IsGathered, LosesRecords}
+use Rattle.e57_chunk_out.specs.Going.{HasRuns, IsGathered}
 use Rattle.e57_chunk_out.specs.Progress.{in_chunks, open_groups, closed_packets, open_packets, packets_so_far, run_so_far, is_nil}
-use Rattle.e57_chunk_out.specs.Standing.{Cloud, Stands, IsUnderWay, IsUnbegun, IsPut, in_groups}
-use Rattle.e57_chunk_out.specs.Turns.{data_end, AreNext, IsChunked, IsOnWay, PassesAt, Turns}
-use Rattle.e57_chunk_out.specs.Sections.{BeginsOn, OpensOn, PassesHeader}
-use Rattle.e57_chunk_out.specs.Clouds.{cloud_of, IsCloud, IsBegunWith}
-use Rattle.e57_chunk_out.specs.CloudCalls.{block_of, block_length, EndsBlock, HasStrings, IsBetween, PassesBlock}
-use Rattle.e57_chunk_out.specs.declared.section.Begun.{Begun}
+use Rattle.e57_chunk_out.specs.Standing.{IsUnderWay}
+use Rattle.e57_chunk_out.specs.Turns.{IsChunked}
 use Rattle.e57_chunk_out.specs.declared.run.Run.{Run}
 use Rattle.e57_chunk_out.specs.declared.turn.Chunks.{Chunks}
-use Rattle.e57_chunk_out.proofs.Advancing.{loses_more, loses_behind}
-use Rattle.e57_chunk_out.proofs.Joins.{later-join, first-join, first-all, cut-joined_at, groups-none}
-use Rattle.e57_chunk_out.proofs.Rows.{later-later, later-zero, strings-text}
+use Rattle.e57_chunk_out.proofs.Joins.{groups-none}
 use Rattle.e57_chunk_out.proofs.Stepping.{steps-none}
 
 -- ---- fields without their first items

@@ -1,9 +1,8 @@
 -- Laws of a turn: it keeps the section under way.
-use Rattle.std.proofs.Common.{◌≡◌, ℕ, zero, suc, ◌+◌, ◌-◌, ◌*◌, ◌/◌, ◌%◌, ◌^◌, ◌<◌, ◌≤◌, min, Bool, true, false, List, [], ◌∷◌, ◌++◌, length, map, Option, Some, None, refl, sym, ap, subst, ◌∙◌, arith, inl, inr, ⊎_elim}
-use Rattle.std.specs.Prelude.{not, ◌||◌, ◌&&◌, nat_lt}
-use Rattle.std.specs.List.{AllByRecursion}
+use Rattle.std.proofs.Common.{◌≡◌, ℕ, ◌+◌, ◌-◌, ◌*◌, ◌/◌, ◌%◌, ◌<◌, ◌≤◌, min, Bool, true, false, List, [], ◌∷◌, ◌++◌, length, map, Option, refl, sym, ap, subst, ◌∙◌, arith, inl, inr, ⊎_elim}
+use Rattle.std.specs.Prelude.{not, ◌||◌, ◌&&◌}
 use Rattle.std.proofs.lemmas.Bool.{cases_lt}
-use Rattle.std.proofs.lemmas.List.{length-append, append_assoc}
+use Rattle.std.proofs.lemmas.List.{length-append}
 use Rattle.std.proofs.Math.Nat.{div-add-mod, mod-lt}
 use Rattle.e57_base.specs.Target.{TargetView}
 use Rattle.e57_base.specs.declared.fault.WriteFault.{WriteFault}
@@ -12,19 +11,18 @@ use Rattle.e57_layout.specs.Items.{AreColumns}
 use Rattle.e57_layout.specs.Packing.{first_records, later_records, chunk_groups, flushed}
 use Rattle.e57_layout.specs.Steps.{Step, steps}
 use Rattle.e57_layout.specs.Written.{Spelled, flagged, packets_bytes, physical, entries_for}
-use Rattle.e57_layout.specs.declared.packet.Entry.{Entry}
 use Rattle.e57_index_out.specs.EntryList.{EntryList}
 use Rattle.e57_layout.proofs.Laws.Written.{packets_bytes-append, length-packets_bytes-append}
 use Rattle.e57_page_out.specs.Sealed.{pages_for}
 use Rattle.e57_page_out.specs.Sequences.{Puts}
-use Rattle.e57_page_out.specs.Writing.{Writing, KeepsTarget, IsBeingWritten, most_bytes}
+use Rattle.e57_page_out.specs.Writing.{Writing, most_bytes}
 use Rattle.e57_page_out.proofs.Sequences.{puts_both}
 use Rattle.e57_page_out.proofs.WritingLaws.{keeps_both}
 use Rattle.e57_chunk_out.specs.Waiting.{Waiting, cleared}
 use Rattle.e57_chunk_out.specs.SideBySide.{HasText}
 use Rattle.e57_chunk_out.specs.Grouping.{kinds_of, columns_of, run_of}
-use Rattle.e57_chunk_out.specs.Going.{gone, has_run, records_at, run_packets, AreGroups, EndsRun, Goes, IsGathered, LosesRecords}
-use Rattle.e57_chunk_out.specs.Progress.{in_chunks, packets_so_far, open_packets, is_nil}
+use Rattle.e57_chunk_out.specs.Going.{gone, has_run, run_packets, AreGroups, EndsRun, Goes, IsGathered, LosesRecords}
+use Rattle.e57_chunk_out.specs.Progress.{packets_so_far, open_packets, is_nil}
 use Rattle.e57_chunk_out.specs.Standing.{IsUnderWay}
 use Rattle.e57_chunk_out.specs.Turns.{chunks_begun, data_end, AreNext, BeginsChunk, IsChunked, IsOnWay, PassesAt, Turns}
 use Rattle.e57_chunk_out.specs.declared.run.Run.{Run}

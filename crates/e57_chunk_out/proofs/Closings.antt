@@ -1,6 +1,6 @@
 -- Laws of the end of a section: it is that of all records.
-use Rattle.std.proofs.Common.{◌≡◌, ℕ, zero, suc, ◌+◌, ◌-◌, ◌*◌, ◌/◌, ◌%◌, ◌<◌, ◌≤◌, Bool, true, false, List, [], ◌∷◌, ◌++◌, length, map, replicate, Option, Some, None, refl, sym, ap, subst, ◌∙◌, arith}
-use Rattle.std.specs.Prelude.{not, IfSome}
+use Rattle.std.proofs.Common.{◌≡◌, ℕ, ◌+◌, ◌-◌, ◌*◌, ◌%◌, ◌<◌, ◌≤◌, false, List, ◌++◌, length, replicate, Option, Some, None, refl, sym, ap, subst, ◌∙◌, arith}
+use Rattle.std.specs.Prelude.{IfSome}
 use Rattle.std.specs.Option.{option_map}
 use Rattle.std.proofs.lemmas.List.{append_assoc, length-append}
 use Rattle.e57_base.specs.MemTarget.{with_piece}
@@ -10,8 +10,7 @@ use Rattle.e57_base.specs.declared.fault.PutFault.{PutFault}
 use Rattle.e57_base.specs.declared.fault.WriteFault.{WriteFault}
 use Rattle.e57_layout.specs.Headers.{section_head}
 use Rattle.e57_layout.specs.Values.{ItemKind, Value}
-use Rattle.e57_layout.specs.Items.{AreColumns}
-use Rattle.e57_layout.specs.Packing.{first_records, later_records, flushed}
+use Rattle.e57_layout.specs.Packing.{first_records, flushed}
 use Rattle.e57_layout.specs.Written.{Spelled, physical, packets_bytes, flagged, data_spelled, entries_for, index_place, index_spelled, most_levels, root_place, packets_spelled, header_for, section_spelled}
 use Rattle.e57_layout.specs.declared.packet.Entry.{Entry}
 use Rattle.e57_layout.specs.declared.section.SectionHeader.{SectionHeader}
@@ -19,7 +18,7 @@ use Rattle.e57_layout.proofs.Laws.Layouts.{length-section_head}
 use Rattle.e57_layout.proofs.Laws.Written.{packets_bytes-append, length-packets_bytes-append}
 use Rattle.e57_page_out.specs.Sealed.{filled, pages_for}
 use Rattle.e57_page_out.specs.Sequences.{Loses}
-use Rattle.e57_page_out.specs.Writing.{Writing, Writes, KeepsTarget, IsBeingWritten, most_bytes}
+use Rattle.e57_page_out.specs.Writing.{Writing, Writes, most_bytes}
 use Rattle.e57_page_out.proofs.PieceLaws.{piece-between}
 use Rattle.e57_page_out.proofs.WritingLaws.{keeps_both, length-filled}
 use Rattle.e57_chunk_out.specs.Waiting.{Waiting}

@@ -1,34 +1,32 @@
 -- Laws of a block that was written, and of one that wasn't.
-use Rattle.std.proofs.Common.{◌≡◌, ℕ, zero, suc, ◌+◌, ◌-◌, ◌*◌, ◌/◌, ◌%◌, ◌<◌, ◌≤◌, Bool, true, false, List, [], ◌∷◌, ◌++◌, length, map, drop, take, get_or, replicate, Option, Some, None, is_some, refl, sym, ap, subst, ◌∙◌, arith, inl, inr, add-zero}
-use Rattle.std.specs.Prelude.{not, slice_index_or, IfSome}
-use Rattle.std.specs.List.{AllByRecursion}
+use Rattle.std.proofs.Common.{◌≡◌, ℕ, ◌+◌, ◌-◌, ◌*◌, ◌/◌, ◌%◌, ◌<◌, ◌≤◌, false, List, [], ◌++◌, length, map, replicate, Option, Some, None, refl, sym, ap, subst, ◌∙◌, arith}
 use Rattle.std.specs.Option.{option_map}
-use Rattle.std.proofs.lemmas.List.{append-nil, length-map}
+use Rattle.std.proofs.lemmas.List.{append-nil}
 use Rattle.e57_base.specs.Target.{TargetView}
 use Rattle.e57_base.specs.declared.fault.WriteFault.{WriteFault}
 use Rattle.e57_layout.specs.Values.{ItemKind, Value}
 use Rattle.e57_layout.specs.Items.{AreColumns}
 use Rattle.e57_layout.specs.Packing.{first_records, later_records, join_columns}
 use Rattle.e57_layout.specs.Written.{Spelled, packets_bytes}
-use Rattle.e57_layout.proofs.Laws.Blocks.{join_columns-columns, first_records-columns}
+use Rattle.e57_layout.proofs.Laws.Blocks.{join_columns-columns}
 use Rattle.e57_page_out.specs.Sealed.{filled, pages_for}
 use Rattle.e57_page_out.specs.Writing.{Writing, Writes, KeepsTarget, IsBeingWritten, most_bytes}
 use Rattle.e57_page_out.proofs.WritingLaws.{keeps_none, keeps_both}
-use Rattle.e57_chunk_out.specs.Waiting.{Waiting, IsWaiting, later_items}
-use Rattle.e57_chunk_out.specs.SideBySide.{Has, HasText}
+use Rattle.e57_chunk_out.specs.Waiting.{Waiting, later_items}
+use Rattle.e57_chunk_out.specs.SideBySide.{HasText}
 use Rattle.e57_chunk_out.specs.Grouping.{kinds_of, columns_of, run_of}
 use Rattle.e57_chunk_out.specs.Going.{has_run, LosesRecords}
 use Rattle.e57_chunk_out.specs.Progress.{packets_so_far, is_nil}
 use Rattle.e57_chunk_out.specs.Standing.{Cloud, Stands, IsUnderWay, IsUnbegun, IsPut, in_groups}
 use Rattle.e57_chunk_out.specs.Turns.{data_end, AreNext, IsChunked, IsOnWay, PassesAt, Turns}
-use Rattle.e57_chunk_out.specs.Sections.{BeginsOn, IsAsLeft, OpensOn, PassesHeader}
+use Rattle.e57_chunk_out.specs.Sections.{IsAsLeft, OpensOn, PassesHeader}
 use Rattle.e57_chunk_out.specs.Clouds.{cloud_of, IsCloud, IsBegunWith}
-use Rattle.e57_chunk_out.specs.CloudCalls.{block_of, block_length, EndsBlock, HasStrings, IsBetween, PassesBlock}
+use Rattle.e57_chunk_out.specs.CloudCalls.{block_length, EndsBlock, HasStrings, PassesBlock}
 use Rattle.e57_chunk_out.specs.declared.section.Begun.{Begun}
 use Rattle.e57_chunk_out.specs.declared.turn.Chunks.{Chunks}
 use Rattle.e57_chunk_out.proofs.Advancing.{loses_more, loses_behind}
-use Rattle.e57_chunk_out.proofs.Blocks.{kinds-later, streams-later, columns-later, run-later, chunked_later, AreOf, block-columns, of-later, first-of-all, first-column, so_far-zero, open-zero, run-zero, entries-zero, way_same}
-use Rattle.e57_chunk_out.proofs.Joins.{later-join, first-join, first-all, cut-joined_at}
+use Rattle.e57_chunk_out.proofs.Blocks.{kinds-later, columns-later, run-later, chunked_later, AreOf, block-columns, of-later, first-of-all, first-column, so_far-zero, open-zero, run-zero, entries-zero, way_same}
+use Rattle.e57_chunk_out.proofs.Joins.{later-join, first-join, cut-joined_at}
 use Rattle.e57_chunk_out.proofs.Rows.{later-later, later-zero, strings-text}
 
 -- ---- a section that is begun

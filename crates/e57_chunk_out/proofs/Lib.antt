@@ -22,4 +22,6 @@ pub mod Rows
 pub mod Blocks
 pub mod Ending
 pub mod Closings
+pub mod Added
+pub mod Opening
 pub mod Adding

@@ -5,7 +5,7 @@ use Rattle.std.proofs.lemmas.List.{length-map, map-append, drop-map, append-nil}
 use Rattle.e57_layout.specs.Values.{ItemKind, integers, words, strings, Value, whole, word}
 use Rattle.e57_layout.specs.Items.{AreItems, IsItem}
 use Rattle.e57_chunk_out.specs.Texts.{strings_at, AreEnds, AreGathered}
-use Rattle.e57_chunk_out.specs.Waiting.{Waiting, with_more, IsPending, IsPushed, IsLetGo, IsInOrder, kind_in, items_in, places_in, room_in}
+use Rattle.e57_chunk_out.specs.Waiting.{with_more, IsPending, IsPushed, IsLetGo, IsInOrder, kind_in, items_in, places_in, room_in}
 use Rattle.e57_chunk_out.specs.declared.pending.Pending.{Pending}
 use Rattle.e57_chunk_out.specs.declared.pending.Pending.TheVariants.{Ints, Bits32, Bits64, Texts}
 use Rattle.e57_chunk_out.proofs.Waits.{all_drop}

@@ -1,14 +1,14 @@
 -- Laws of turns in a row.
-use Rattle.std.proofs.Common.{◌≡◌, ℕ, zero, suc, ◌+◌, ◌-◌, ◌*◌, ◌%◌, ◌<◌, ◌≤◌, true, List, [], ◌∷◌, length, map, drop, Option, refl, sym, ap, subst, ◌∙◌, arith, inl, inr, ⊎_elim, add-zero}
+use Rattle.std.proofs.Common.{◌≡◌, ℕ, ◌+◌, ◌-◌, ◌%◌, ◌<◌, ◌≤◌, List, [], ◌∷◌, length, refl, sym, ap, subst, ◌∙◌, arith, inl, inr, ⊎_elim, add-zero}
 use Rattle.std.specs.Prelude.{◌⊎◌}
 use Rattle.std.specs.List.{AllByRecursion}
 use Rattle.std.proofs.lemmas.List.{drop-drop}
 use Rattle.e57_base.specs.Target.{TargetView}
 use Rattle.e57_base.specs.declared.fault.WriteFault.{WriteFault}
-use Rattle.e57_layout.specs.Values.{ItemKind, Value, strings}
+use Rattle.e57_layout.specs.Values.{ItemKind, Value}
 use Rattle.e57_layout.specs.Items.{AreColumns}
-use Rattle.e57_layout.specs.Packing.{first_records, later_records}
-use Rattle.e57_page_out.specs.Writing.{Writing, KeepsTarget, IsBeingWritten, most_bytes}
+use Rattle.e57_layout.specs.Packing.{later_records}
+use Rattle.e57_page_out.specs.Writing.{Writing, IsBeingWritten, most_bytes}
 use Rattle.e57_page_out.proofs.WritingLaws.{keeps_none, keeps_both}
 use Rattle.e57_chunk_out.specs.Waiting.{Waiting}
 use Rattle.e57_chunk_out.specs.SideBySide.{Has, HasText}

@@ -1,23 +1,22 @@
 -- Laws of the groups that are under way in the fields' streams.
-use Rattle.std.proofs.Common.{◌≡◌, ℕ, zero, suc, ◌+◌, ◌-◌, ◌*◌, ◌/◌, ◌^◌, ◌<◌, ◌≤◌, min, Bool, true, false, List, [], ◌∷◌, ◌++◌, length, map, pos, refl, sym, ap, subst, ◌∙◌, arith, inl, inr, ⊎_elim}
+use Rattle.std.proofs.Common.{◌≡◌, ℕ, ◌+◌, ◌*◌, ◌/◌, ◌^◌, ◌<◌, ◌≤◌, Bool, true, List, [], ◌∷◌, ◌++◌, length, map, pos, refl, sym, ap, subst, ◌∙◌, arith, inl, inr, ⊎_elim}
 use Rattle.std.specs.Prelude.{◌⊎◌}
 use Rattle.std.specs.List.{AllByRecursion}
 use Rattle.std.proofs.lemmas.Bool.{leb-true}
 use Rattle.std.proofs.lemmas.List.{length-map, length-append}
 use Rattle.e57_layout.specs.Packets.{total, data_size}
-use Rattle.e57_layout.specs.Packing.{fits_packet, room_for}
-use Rattle.e57_layout.specs.Strings.{string_limit, string_bytes_of}
+use Rattle.e57_layout.specs.Packing.{fits_packet}
+use Rattle.e57_layout.specs.Strings.{string_bytes_of}
 use Rattle.e57_layout.specs.Values.{ItemKind, integers, words, strings, Value, whole, word, octets, kind_width}
 use Rattle.e57_layout.specs.Items.{AreItems, field_bytes, stored, octets_of}
 use Rattle.e57_layout.proofs.Laws.Layouts.{total-cons, data_size_is}
 use Rattle.e57_layout.proofs.Laws.Numbers.{length-packed}
-use Rattle.e57_chunk_out.specs.Waiting.{Waiting, part, taken, cleared, HasRoom, IsWaiting}
+use Rattle.e57_chunk_out.specs.Waiting.{Waiting, part, taken, cleared, IsWaiting}
 use Rattle.e57_chunk_out.specs.Cutting.{streams_of}
 use Rattle.e57_chunk_out.specs.SideBySide.{Has, HasRoomFor, HasText}
-use Rattle.e57_chunk_out.specs.Grouping.{kinds_of, columns_of, IsFresh}
-use Rattle.e57_chunk_out.specs.Going.{HasRuns, IsNumbers, IsGathered}
+use Rattle.e57_chunk_out.specs.Grouping.{IsFresh}
+use Rattle.e57_chunk_out.specs.Going.{HasRuns, IsGathered}
 use Rattle.e57_chunk_out.specs.declared.run.Run.{Run}
-use Rattle.e57_chunk_out.proofs.Cuts.{length-streams}
 use Rattle.e57_chunk_out.proofs.Side.{grown, length-grown}
 use Rattle.e57_chunk_out.proofs.Strings.{length-string_bytes, text_size-most}
 use Rattle.e57_chunk_out.proofs.Waits.{length-part, part_items}

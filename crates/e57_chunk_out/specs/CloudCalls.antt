@@ -1,10 +1,9 @@
 -- What the calls of a cloud that is written promise.
-use Rattle.std.specs.Prelude.{◌≡◌, ◌⊎◌, ℕ, ◌+◌, ◌-◌, ◌*◌, ◌%◌, ◌^◌, ◌<◌, ◌≤◌, ◌==◌, nat_eq, Bool, true, false, List, [], ◌∷◌, ◌++◌, length, map, slice_index_or, slice_set, Option, None, is_some}
+use Rattle.std.specs.Prelude.{◌≡◌, ◌⊎◌, ℕ, ◌+◌, ◌-◌, ◌*◌, ◌%◌, ◌^◌, ◌<◌, ◌≤◌, true, false, List, [], ◌∷◌, ◌++◌, length, map, slice_index_or, slice_set, Option, None, is_some}
 use Rattle.std.specs.List.{AllByRecursion}
 use Rattle.std.specs.Option.{option_map}
 use Rattle.e57_base.specs.Target.{TargetView}
-use Rattle.e57_layout.specs.Values.{ItemKind, integers, words, strings, Value, item_kind, IsValidField}
-use Rattle.e57_layout.specs.Items.{AreItems, AreColumns}
+use Rattle.e57_layout.specs.Values.{ItemKind, integers, words, strings, Value, item_kind}
 use Rattle.e57_layout.specs.Packing.{later_records, join_columns}
 use Rattle.e57_layout.specs.Written.{physical, section_spelled}
 use Rattle.e57_layout.specs.declared.field.Field.{Field}

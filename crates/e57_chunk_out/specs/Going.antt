@@ -1,5 +1,5 @@
 -- The groups of an open chunk that are under way, in the fields' streams, and what becomes of them with more records.
-use Rattle.std.specs.Prelude.{◌≡◌, ◌⊎◌, ℕ, ◌+◌, ◌*◌, ◌%◌, ◌<◌, ◌≤◌, nat_lt, not, ◌||◌, Bool, true, false, List, length, map, min, None}
+use Rattle.std.specs.Prelude.{◌≡◌, ◌⊎◌, ℕ, ◌+◌, ◌*◌, ◌%◌, ◌<◌, ◌≤◌, nat_lt, not, ◌||◌, Bool, true, false, List, length, map, min}
 use Rattle.std.specs.List.{AllByRecursion}
 use Rattle.e57_base.specs.Target.{TargetView}
 use Rattle.e57_base.specs.Count.{Rose}

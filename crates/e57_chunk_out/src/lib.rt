@@ -4,6 +4,7 @@
 
 mod block;
 mod bytes;
+mod cloud_out;
 mod field_out;
 mod fields;
 mod gathered;
@@ -16,4 +17,5 @@ mod texts;
 mod theorems;
 mod turn;
 
+pub use cloud_out::CloudOut;
 pub use theorems::{items_stand, new_cloud_stands};

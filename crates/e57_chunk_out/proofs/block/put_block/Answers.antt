@@ -1,4 +1,4 @@
-use Rattle.std.proofs.Common.{◌≡◌, ℕ, ◌+◌, ◌-◌, ◌*◌, ◌/◌, ◌%◌, ◌<◌, length, false, ap, sym, ◌∙◌, arith}
+use Rattle.std.proofs.Common.{◌+◌, ◌*◌, ◌/◌, ◌%◌, length, false, ap, sym, ◌∙◌, arith}
 use Rattle.e57_chunk_out.specs.Waiting.{Waiting}
 use Rattle.e57_chunk_out.specs.CloudCalls.{block_length}
 use Rattle.e57_chunk_out.specs.Clouds.{cloud_of}

@@ -1,10 +1,9 @@
-use Rattle.std.proofs.Common.{◌≡◌, ℕ, ◌+◌, ◌-◌, ◌<◌, ◌≤◌, ◌++◌, List, length, take, drop, subst, sym, ap, ◌∙◌, arith, refl}
+use Rattle.std.proofs.Common.{◌≡◌, ℕ, ◌+◌, ◌-◌, ◌++◌, List, length, take, drop, subst, sym, ap, ◌∙◌, arith}
 use Rattle.std.specs.List.{AllByRecursion}
 use Rattle.std.proofs.lemmas.List.{take_at, length-take-le, length-drop}
 use Rattle.std.proofs.lemmas.Slice.{take-put_mid}
 use borrow.Rule.Slice.PartMut.{put_mid}
-use Rattle.e57_chunk_out.specs.Texts.{strings_at, AreEnds, AreGathered, IsMovable, moved_ends}
-use Rattle.e57_chunk_out.proofs.Strings.{ends-begin}
+use Rattle.e57_chunk_out.specs.Texts.{strings_at, AreGathered, IsMovable, moved_ends}
 use Rattle.e57_chunk_out.proofs.Behind.{last_of, last_of-take, last-within, ends-last, ends-movable, are-added, are-kept, take-front, take-behind, put-grown}
 use Rattle.e57_chunk_out.proofs.gathered.add_texts.Goals as goal
 

@@ -1,11 +1,11 @@
-use Rattle.std.proofs.Common.{◌≡◌, ℕ, ◌+◌, ◌≤◌, List, [], ◌++◌, length, take, drop, sym, ap, ◌∙◌, subst, arith, refl}
+use Rattle.std.proofs.Common.{◌≡◌, ℕ, ◌+◌, List, [], ◌++◌, length, take, drop, sym, ap, ◌∙◌, subst, arith, refl}
 use Rattle.std.specs.Prelude.{MatchResult}
 use Rattle.std.specs.Vec.{with_items}
 use Rattle.std.proofs.lemmas.List.{append-nil, take_at}
 use Rattle.std.proofs.lemmas.Result.{MatchResult-weaker}
 use Rattle.e57_layout.specs.Values.{Value}
 use Rattle.e57_chunk_out.specs.Texts.{strings_at, AreGathered}
-use Rattle.e57_chunk_out.specs.Waiting.{IsPending, IsPushed, places_in}
+use Rattle.e57_chunk_out.specs.Waiting.{IsPending, IsPushed}
 use Rattle.e57_chunk_out.specs.declared.pending.Pending.{Pending}
 use Rattle.e57_chunk_out.specs.declared.pending.Pending.TheVariants.{Texts}
 use Rattle.e57_chunk_out.proofs.Kept.{length-strings}

@@ -1,11 +1,11 @@
 use Rattle.std.proofs.Common.{map, ◌+◌, ◌≡◌, ℕ, List, ◌++◌, length, take, drop, sym, ap, ◌∙◌, subst, refl}
 use Rattle.std.proofs.lemmas.List.{take_at}
 use Rattle.std.specs.Vec.{with_items}
-use Rattle.e57_layout.specs.Values.{word, whole}
-use Rattle.e57_chunk_out.specs.Waiting.{IsPending, IsPushed, IsLetGo}
+use Rattle.e57_layout.specs.Values.{word}
+use Rattle.e57_chunk_out.specs.Waiting.{IsPending, IsPushed}
 use Rattle.e57_chunk_out.specs.declared.pending.Pending.{Pending}
-use Rattle.e57_chunk_out.specs.declared.pending.Pending.TheVariants.{Ints, Bits32, Bits64}
-use Rattle.e57_chunk_out.proofs.Pushed.{words-items, numbers-pushed, numbers-let_go}
+use Rattle.e57_chunk_out.specs.declared.pending.Pending.TheVariants.{Bits32}
+use Rattle.e57_chunk_out.proofs.Pushed.{words-items, numbers-pushed}
 use Rattle.e57_chunk_out.proofs.pending.push_words.Goals as goal
 
 pub returns-in-Bits32 : goal.returns-in-Bits32

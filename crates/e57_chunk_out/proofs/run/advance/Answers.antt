@@ -1,10 +1,8 @@
-use Rattle.std.proofs.Common.{◌≡◌, ◌+◌, ◌<◌, List, map, sym, subst, arith}
+use Rattle.std.proofs.Common.{◌+◌, List, sym, subst, arith}
 use Rattle.std.specs.List.{AllByRecursion}
 use Rattle.e57_chunk_out.specs.Waiting.{Waiting}
 use Rattle.e57_chunk_out.specs.SideBySide.{Has}
-use Rattle.e57_chunk_out.specs.Going.{IsGathered}
-use Rattle.e57_chunk_out.specs.declared.run.Run.{Run}
-use Rattle.e57_chunk_out.proofs.RunLaws.{gathered_cleared, has-cleared}
+use Rattle.e57_chunk_out.proofs.RunLaws.{has-cleared}
 use Rattle.e57_chunk_out.proofs.Advancing.{most-few, there-some, are-groups, taken-goes, lost_run, flushed-answer, cleared_is}
 use Rattle.e57_chunk_out.proofs.run.advance.Goals as goal
 

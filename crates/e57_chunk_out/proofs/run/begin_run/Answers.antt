@@ -1,4 +1,4 @@
-use Rattle.std.proofs.Common.{◌≡◌, ℕ, ◌+◌, ◌<◌, ◌≤◌, List, length, map, min, not, false, sym, ap, subst, ◌∙◌, arith}
+use Rattle.std.proofs.Common.{◌≡◌, ◌+◌, ◌<◌, length, min, not, false, sym, subst, arith}
 use Rattle.e57_layout.specs.Packing.{fits_packet, poured}
 use Rattle.e57_layout.specs.Written.{flagged, packets_bytes}
 use Rattle.e57_page_out.specs.Writing.{most_bytes}

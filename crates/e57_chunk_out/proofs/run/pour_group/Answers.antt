@@ -1,4 +1,4 @@
-use Rattle.std.proofs.Common.{◌≡◌, ◌≤◌, ◌^◌, ℕ, List, map, not, refl, sym, ap, subst, ◌∙◌}
+use Rattle.std.proofs.Common.{◌≤◌, ◌^◌, List, map, not, refl, sym, ap, subst, ◌∙◌}
 use Rattle.e57_layout.specs.Packets.{total}
 use Rattle.e57_layout.specs.Packing.{poured}
 use Rattle.e57_layout.specs.Written.{flagged, packets_bytes}

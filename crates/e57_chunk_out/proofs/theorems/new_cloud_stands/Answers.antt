@@ -1,5 +1,4 @@
 use Rattle.e57_chunk_out.proofs.Adding.{new_stands}
-use Rattle.e57_chunk_out.proofs.Closings.{at-groups}
 use Rattle.e57_chunk_out.proofs.theorems.new_cloud_stands.Goals as goal
 
 pub returns : goal.returns

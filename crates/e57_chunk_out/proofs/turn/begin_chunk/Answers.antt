@@ -1,6 +1,5 @@
 use Rattle.std.proofs.Common.{arith}
 use Rattle.e57_page_out.proofs.Places.{offset-place}
-use Rattle.e57_chunk_out.proofs.Begun.{begun-room}
 use Rattle.e57_chunk_out.proofs.Chunking.{begins_new}
 use Rattle.e57_chunk_out.proofs.turn.begin_chunk.Goals as goal
 

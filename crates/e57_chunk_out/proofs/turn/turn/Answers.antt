@@ -1,4 +1,4 @@
-use Rattle.std.proofs.Common.{◌≡◌, ℕ, ◌-◌, ◌%◌, min, arith}
+use Rattle.std.proofs.Common.{arith}
 use Rattle.e57_chunk_out.proofs.Chunking.{lost_first, turned_open, turned_full, lost_last}
 use Rattle.e57_chunk_out.proofs.turn.turn.Goals as goal
 
