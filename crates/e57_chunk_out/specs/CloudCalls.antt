@@ -12,6 +12,7 @@ use Rattle.e57_page_out.specs.Sealed.{filled, pages_for}
 use Rattle.e57_page_out.specs.Writing.{Writing, KeepsTarget, IsBeingWritten, most_bytes}
 use Rattle.e57_chunk_out.specs.Standing.{Cloud, Stands, IsHere, in_groups}
 use Rattle.e57_chunk_out.specs.Turns.{data_end}
+use Rattle.e57_chunk_out.specs.declared.cloud_out.Written.{Written}
 
 -- ---- opening
 
@@ -133,6 +134,17 @@ pub record ClosesOn {T : Type 0} (view : T → TargetView) (c : Cloud) (out : Wr
   pub state : IsBeingWritten view now
   pub target : KeepsTarget (view out.target) (view now.target)
   pub section : (before : Option (List ℕ)) (start : ℕ) (cs : List (List Value)) → Stands before start cs c out → PutsSection before start cs c offset now
+
+-- nothing was written: no record came
+pub record ClosesNothing {T : Type 0} (c : Cloud) (out : Writing T) (offset : ℕ) (now : Writing T) : Type 0 where
+  pub count : c.count ≡ 0
+  pub place : offset ≡ 0
+  pub same : now ≡ out
+
+-- what the end answers and leaves
+pub record ClosesCloud {T : Type 0} (view : T → TargetView) (c : Cloud) (out : Writing T) (w : Written) (now : Writing T) : Type 0 where
+  pub count : w.count ≡ c.count
+  pub section : ClosesNothing c out w.place now ⊎ ((0 < c.count) × ClosesOn view c out w.place now)
 
 -- With its section the file would pass its last page.
 abbrev pub PassesSection : {T : Type 0} → Cloud → Writing T → Type 0

@@ -1,15 +1,15 @@
-//! A block of records, from the parts of a cloud that is written.
+//! A block of records, and what is left at a section's end, from the parts of a cloud that is written.
 
-ghost use Rattle.std.specs.Prelude.{◌≡◌, ◌+◌, ◌*◌, ◌<◌, ◌≤◌, false, true, length, MatchResult};
-ghost use Rattle.e57_chunk_out.specs.CloudCalls.{block_length, EndsBlock, HasStrings, IsEven, PassesBlock};
+ghost use Rattle.std.specs.Prelude.{◌≡◌, ◌+◌, ◌*◌, ◌<◌, ◌≤◌, false, true, length, Some, MatchResult};
+ghost use Rattle.e57_chunk_out.specs.CloudCalls.{block_length, ClosesOn, EndsBlock, HasStrings, IsBetween, IsEven, PassesBlock, PassesSection};
 ghost use Rattle.e57_chunk_out.specs.Clouds.{cloud_of, IsCloud};
 ghost use Rattle.e57_chunk_out.specs.Going.{LosesRecords};
 ghost use Rattle.e57_chunk_out.specs.Sections.{IsAsLeft};
 
 use crate::field_out::FieldOut;
 use crate::fields::drop_all;
-use crate::section::{Begun, open_section};
-use crate::turn::{Chunks, put_records};
+use crate::section::{Begun, end_section, open_section};
+use crate::turn::{Chunks, end_chunk, put_records};
 use e57_base::{Target, WriteFault};
 use e57_page_out::PagesOut;
 
@@ -49,4 +49,35 @@ pub fn put_block<T: Target>(
         size: out.size(),
     });
     Ok(())
+}
+
+/// Writes what is left, the index, and the header. Answers the section's physical offset.
+pub fn put_rest<T: Target>(
+    fields: &mut [FieldOut],
+    chunks: &mut Chunks,
+    count: u64,
+    begun: Begun,
+    out: &mut PagesOut<T>,
+) -> Result<u64, WriteFault>
+    requires cloud { IsCloud fields.old chunks.old count (Some begun) }
+    requires open { out.old.is_spent ≡ false }
+    requires here { IsAsLeft (Some begun) out.old }
+    requires between { IsBetween (cloud_of fields.old chunks.old count (Some begun) false) }
+    ensures { let old = cloud_of fields.old chunks.old count (Some begun) false in
+        MatchResult result
+        (λ offset. ClosesOn T.view old out.old offset out.new)
+        (λ fault. (out.new.is_spent ≡ true) × LosesRecords T.view out.old (PassesSection old out.old) (HasStrings old.kinds) fault (T.view out.new.target)) }
+{
+    let _size = out.size();
+    let left = count % 8;
+    if let Err(fault) = put_records(fields, chunks, count - left, left as usize, out) {
+        return Err(fault);
+    }
+    if let Err(fault) = end_chunk(fields, &mut chunks.run, out) {
+        return Err(fault);
+    }
+    match end_section(begun.page, &chunks.index, out) {
+        Ok(offset) => Ok(offset),
+        Err(fault) => Err(fault.into()),
+    }
 }

@@ -9,9 +9,9 @@ ghost use Rattle.e57_chunk_out.specs.Going.{stream_limit, LosesRecords};
 ghost use Rattle.e57_chunk_out.specs.Grouping.{kinds_of};
 ghost use Rattle.e57_chunk_out.specs.Standing.{IsHere};
 ghost use Rattle.e57_chunk_out.specs.Texts.{strings_at, AreEnds};
-ghost use Rattle.e57_chunk_out.specs.CloudCalls.{block_length, chosen_kinds, in_block, kind_of, kinds_in, most_of_block, new_cloud, with_items, EndsBlock, HasStrings, IsChunkLength, IsEven, IsInteger, PassesBlock};
+ghost use Rattle.e57_chunk_out.specs.CloudCalls.{block_length, chosen_kinds, in_block, kind_of, kinds_in, most_of_block, new_cloud, with_items, ClosesCloud, EndsBlock, HasStrings, IsBetween, IsChunkLength, IsEven, IsInteger, PassesBlock, PassesSection};
 
-use crate::block::put_block;
+use crate::block::{put_block, put_rest};
 use crate::field_out::FieldOut;
 use crate::run::Run;
 use crate::section::Begun;
@@ -25,6 +25,15 @@ use std::marker::Model;
 
 /// The most bytes of a field in a packet.
 const STREAM: usize = 65_528;
+
+/// What a cloud's section was written as.
+#[derive(Clone, Copy, Debug, PartialEq, Eq, Drop)]
+pub struct Written {
+    /// The physical offset of the section, or 0 if no record came.
+    pub place: u64,
+    /// How many records it has.
+    pub count: u64,
+}
 
 /// The records of a cloud, written as a compressed vector section (ASTM E2807, compressed vector binary sections): block by
 /// block, each of up to 1024 records, of any number.
@@ -220,6 +229,31 @@ impl CloudOut {
             return Err(fault);
         }
         Ok(())
+    }
+
+    /// Ends the section: puts what is left of its records, its index, and its header in its place. No page is held then. Answers
+    /// where it is. If no record came, nothing is written.
+    ///
+    /// Refuses as `end_block` does; `out` is then spent.
+    pub fn close<T: Target>(mut self, out: &mut PagesOut<T>) -> Result<Written, WriteFault>
+        requires unspent { self.is_spent ≡ false }
+        requires open { out.old.is_spent ≡ false }
+        requires here { IsHere self out.old }
+        requires between { IsBetween self }
+        ensures { MatchResult result
+            (λ written. ClosesCloud T.view self out.old written out.new)
+            (λ fault. (out.new.is_spent ≡ true)
+            × LosesRecords T.view out.old (PassesSection self out.old) (HasStrings self.kinds) fault (T.view out.new.target)) }
+    {
+        let Some(begun) = self.section else {
+            return Ok(Written { place: 0, count: 0 });
+        };
+        let count = self.count;
+        self.is_spent = true;
+        match put_rest(&mut self.fields, &mut self.chunks, count, begun, out) {
+            Ok(place) => Ok(Written { place, count }),
+            Err(fault) => Err(fault),
+        }
     }
 }
 

@@ -17,5 +17,5 @@ mod texts;
 mod theorems;
 mod turn;
 
-pub use cloud_out::CloudOut;
+pub use cloud_out::{CloudOut, Written};
 pub use theorems::{items_stand, new_cloud_stands};
