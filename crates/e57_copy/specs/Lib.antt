@@ -1,0 +1,5 @@
+pub mod Found
+pub mod Adding
+pub mod Copying
+pub mod Items
+pub mod Rewriting
