@@ -15,6 +15,7 @@ pub use laws::{one_decimal, one_sum, one_text, text_is_read};
 pub use reading::read_decimal;
 pub use scaling::Linear;
 pub use values::Decimal;
+pub use writing::Text;
 
 #[cfg(test)]
 mod tests;

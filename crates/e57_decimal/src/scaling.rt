@@ -8,7 +8,7 @@ ghost use Rattle.e57_decimal.specs.Writing.{decimal_text};
 
 use crate::powers::{LIMIT, SHIFT_LIMIT, power_of_ten, signed};
 use crate::values::Decimal;
-use crate::writing::{Text, text_of};
+use crate::writing::{Text, write_number};
 use arrayvec::ArrayString;
 use std::marker::Model;
 
@@ -148,15 +148,27 @@ impl Linear {
         })
     }
 
-    /// The text of `raw * scale + offset`, for a raw number within the limits: a `-` if it is below 0, the digits before
-    /// the point without a leading zero but at least one, and, if it isn't whole, a point and the digits behind it, the
-    /// last not 0. At most 101 bytes.
+    /// Writes the text of `raw * scale + offset`, for a raw number within the limits, in place of what was there: a `-` if it is
+    /// below 0, the digits before the point without a leading zero but at least one, and, if it isn't whole, a point and the
+    /// digits behind it, the last not 0. At most 101 bytes.
+    pub fn write(&self, raw: i64, text: &mut Text)
+        requires low { self.now.low ≤ℤ raw }
+        requires high { raw ≤ℤ self.now.high }
+        ensures text { text.new.bytes ≡ decimal_text (value_of self.now raw) }
+        ensures value { HasValue text.new.bytes (value_of self.now raw) }
+    {
+        write_number(text, value_at(raw, self.factor, self.summand), self.up);
+    }
+
+    /// The same text by itself.
     pub fn text(&self, raw: i64) -> ArrayString<112>
         requires low { self.now.low ≤ℤ raw }
         requires high { raw ≤ℤ self.now.high }
         ensures text { result.bytes ≡ decimal_text (value_of self.now raw) }
         ensures value { HasValue result.bytes (value_of self.now raw) }
     {
-        text_of(value_at(raw, self.factor, self.summand), self.up)
+        let mut text = Text::new();
+        self.write(raw, &mut text);
+        text
     }
 }

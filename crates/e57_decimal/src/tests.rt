@@ -1,8 +1,9 @@
 //! Worked texts and values, and the calls beside a slow exact program.
 
-ghost use Rattle.std.specs.Prelude.{◌≤◌, ◌≤ℤ◌};
+ghost use Rattle.std.specs.Prelude.{◌*◌, ◌≤◌, ◌≤ℤ◌, unsigned_abs};
+ghost use Rattle.e57_decimal.specs.Fractions.{limit, shift_limit};
 
-use crate::writing::text_of;
+use crate::writing::{Text, write_number};
 use crate::{Decimal, Linear, read_decimal};
 use arrayvec::ArrayString;
 use std::alloc::{AllocError, Global};
@@ -153,6 +154,16 @@ fn values_have_texts(rt: HostRuntime) {
 }
 
 // ---- a slow exact program
+
+/// The text of `number * 10^(up - 60)`.
+fn text_of(number: i128, up: u32) -> Text
+    requires within { unsigned_abs number ≤ limit }
+    requires high { up ≤ 2 * shift_limit }
+{
+    let mut text = Text::new();
+    write_number(&mut text, number, up);
+    text
+}
 
 /// `whole * 10^-places` with an exponent.
 fn spelled(whole: i128, places: u32, exponent: i16) -> ArrayString<240>

@@ -152,30 +152,28 @@ fn put_lowered(text: &mut Text, magnitude: u128, places: u32)
     }
 }
 
-/// A `-`, if the number is below 0.
-fn sign_of(number: i128) -> Text
-    ensures sign { result.bytes ≡ sign_text number }
-    ensures short { array_string_len result ≤ 1 }
+/// Writes a `-` if the number is below 0, and nothing else, in place of what was there.
+fn write_sign(text: &mut Text, number: i128)
+    ensures sign { text.new.bytes ≡ sign_text number }
+    ensures short { array_string_len text.new ≤ 1 }
 {
-    let mut text = Text::new();
+    text.clear();
     if number < 0 {
         text.push_str("-");
     }
-    text
 }
 
-/// The text of `number * 10^(up - 60)`.
-pub fn text_of(number: i128, up: u32) -> Text
+/// Writes the text of `number * 10^(up - 60)`, in place of what was there.
+pub fn write_number(text: &mut Text, number: i128, up: u32)
     requires within { unsigned_abs number ≤ limit }
     requires high { up ≤ 2 * shift_limit }
-    ensures { let n = unsigned_abs number * 10 ^ up in result.bytes ≡ sign_text number ++ magnitude_text n shift_limit }
+    ensures { let n = unsigned_abs number * 10 ^ up in text.new.bytes ≡ sign_text number ++ magnitude_text n shift_limit }
 {
-    let mut text = sign_of(number);
+    write_sign(text, number);
     let magnitude = number.unsigned_abs();
     if up < SHIFT_LIMIT {
-        put_lowered(&mut text, magnitude, SHIFT_LIMIT - up);
+        put_lowered(text, magnitude, SHIFT_LIMIT - up);
     } else {
-        put_raised(&mut text, magnitude, up - SHIFT_LIMIT);
+        put_raised(text, magnitude, up - SHIFT_LIMIT);
     }
-    text
 }

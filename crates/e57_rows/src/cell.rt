@@ -8,7 +8,7 @@ ghost use Rattle.e57_rows.specs.Writing.{AtRow, InRow};
 use crate::hexadecimal::{digits32, digits64};
 use csv::Writer;
 use e57_blocks::Item;
-use e57_decimal::Linear;
+use e57_decimal::{Linear, Text};
 use itoa::Buffer;
 use std::alloc::AllocError;
 use std::io::Write;
@@ -41,20 +41,22 @@ pub fn write_item<W: Write + Drop>(
     }
 }
 
-/// Writes an item as the next cell of a row: an integer with a line as the number that it stands for.
+/// Writes an item as the next cell of a row: an integer with a line as the number that it stands for. `digits` and `text` are
+/// room, whatever they held.
 #[inline(always)]
 pub fn write_on_line<W: Write + Drop>(
     writer: &mut Writer<W>,
     line: &Option<Linear>,
     item: Item<'_>,
     digits: &mut Buffer,
+    text: &mut Text,
 ) -> Result<(), AllocError>
     requires { IsOnLine line.now item }
     ensures { (base : Option (List ℕ)) → (cells : List (List ℕ)) → length cells + 1 < 2 ^ 64 → InRow W.contents base cells writer.old → OnOk result (InRow W.contents base (cells ++ line_text line.now item.entry ∷ []) writer.new) }
 {
     match (line, item) {
         (Some(line), Item::Whole(number)) => {
-            let text = line.text(number);
+            line.write(number, text);
             write_text(writer, text.as_bytes())
         }
         (_, item) => write_item(writer, item, digits),

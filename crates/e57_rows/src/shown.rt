@@ -12,7 +12,7 @@ use crate::cell::{end_row, write_on_line};
 use crate::text::rows_of;
 use csv::Writer;
 use e57_blocks::FieldBlock;
-use e57_decimal::Linear;
+use e57_decimal::{Linear, Text};
 use itoa::Buffer;
 use std::alloc::AllocError;
 use std::io::Write;
@@ -78,13 +78,14 @@ fn write_rows<W: Write + Drop>(
     ensures { (show : ℕ → Value → Value) → AreShownBy show lines.now blocks.now → (base : Option (List ℕ)) → AtRow W.contents base [] writer.old → OnOk result (AtRow W.contents base (held_rows show blocks.now i n) writer.new) }
 {
     let mut digits = Buffer::new();
+    let mut text = Text::new();
     for k in 0..n {
-        write_row(writer, lines, blocks, i + k as u64, &mut digits)?;
+        write_row(writer, lines, blocks, i + k as u64, &mut digits, &mut text)?;
     }
     Ok(())
 }
 
-/// Writes the row of record `i`, with room for the digits of an integer.
+/// Writes the row of record `i`, with room for the digits of an integer and the text of a number.
 #[inline(always)]
 fn write_row<W: Write + Drop>(
     writer: &mut Writer<W>,
@@ -92,13 +93,14 @@ fn write_row<W: Write + Drop>(
     blocks: &[FieldBlock],
     i: u64,
     digits: &mut Buffer,
+    text: &mut Text,
 ) -> Result<(), AllocError>
     requires have { AllByRecursion (HasRecords i 1) blocks.now }
     requires lines { AreFor lines.now blocks.now }
     ensures { (show : ℕ → Value → Value) → AreShownBy show lines.now blocks.now → (base : Option (List ℕ)) → (text : List ℕ) → AtRow W.contents base text writer.old → OnOk result (AtRow W.contents base (text ++ held_row show blocks.now i) writer.new) }
 {
     for j in 0..blocks.len() {
-        write_on_line(writer, &lines[j], blocks[j].item(i), digits)?;
+        write_on_line(writer, &lines[j], blocks[j].item(i), digits, text)?;
     }
     end_row(writer)
 }
