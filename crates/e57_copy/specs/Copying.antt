@@ -1,14 +1,19 @@
 -- What it is to copy some records of a section into a cloud that is written.
-use Rattle.std.specs.Prelude.{◌≡◌, ℕ, ◌+◌, ◌<◌, ◌≤◌, true, List, map, Some, IfSome}
+use Rattle.std.specs.Prelude.{◌≡◌, ◌⊎◌, ℕ, ◌+◌, ◌<◌, ◌≤◌, true, List, map, slice_get, Some, IfSome, Ok}
 use Rattle.std.specs.List.{AllByRecursion}
 use Rattle.e57_base.specs.Count.{Rose}
 use Rattle.e57_base.specs.Source.{SourceView}
 use Rattle.e57_base.specs.Target.{TargetView}
 use Rattle.e57_base.specs.declared.fault.AskFault.TheVariants as of_ask
 use Rattle.e57_base.specs.declared.fault.AskFault.{AskFault}
+use Rattle.e57_base.specs.declared.fault.Fault.{Fault}
 use Rattle.e57_base.specs.declared.fault.RunFault.{RunFault}
 use Rattle.e57_base.specs.declared.fault.RunFault.TheVariants.{Refused, Source, Out, Memory, Ask}
-use Rattle.e57_layout.specs.Values.{Value}
+use Rattle.e57_base.specs.declared.kind.Kind.TheVariants.{ValueRange}
+use Rattle.e57_layout.specs.Items.{IsItem}
+use Rattle.e57_layout.specs.Values.{ItemKind, Value}
+use Rattle.e57_cloud.specs.Cloud.{Leaf}
+use Rattle.e57_cloud.specs.PathItem.{item_of}
 use Rattle.e57_page_out.specs.Sequences.{Leaves}
 use Rattle.e57_page_out.specs.Writing.{Writing}
 use Rattle.e57_stream.specs.Asking.{AsksMet}
@@ -73,11 +78,36 @@ abbrev pub IsLargeCause : {T : Type 0} → Slice → SourceView → Cloud → Wr
 IsLargeCause a old c out of_ask.Large = PassesIn a old c out
 IsLargeCause a old c out why = ⊥
 
--- Why not: the next record has a fault, which is the first one of its fields; the source failed at it; the target failed; the
+-- The item of some asked field and record i isn't one of the kind that the cloud has for this field.
+pub record IsOutside (a : Slice) (kinds : List ItemKind) (file : List ℕ) (i : ℕ) : Type 0 where
+  pub j : ℕ
+  pub field : ℕ × Leaf
+  pub asked : slice_get a.asked j ≡ Some field
+  pub kind : ItemKind
+  pub of_cloud : slice_get kinds j ≡ Some kind
+  pub value : Value
+  pub item : item_of file a.section a.fixed field.0 field.1 i ≡ Ok value
+  pub outside : IsItem kind value → ⊥
+
+-- Some of its records were put, and a later one of them has a value outside of the cloud's limits.
+pub record StopsOutside {T : Type 0} (view : T → TargetView) (a : Slice) (old : SourceView) (c : Cloud) (out : Writing T) (new : SourceView) (b : Blocks) (c' : Cloud) (out' : Writing T) : Type 0 where
+  pub n : ℕ
+  pub copies : CopiesFirst view a n old c out new b c' out'
+  pub i : ℕ
+  pub after : a.from + n ≤ i
+  pub before : i < a.from + a.count
+  pub outside : IfSome old.held (λ file. IsOutside a c.kinds file i)
+
+-- the next record has this fault, which is the first one of its fields; or a value is outside of the cloud's limits
+abbrev pub IsRefusal : {T : Type 0} → (T → TargetView) → Slice → SourceView → Cloud → Writing T → Fault → SourceView → Blocks → Cloud → Writing T → Type 0
+IsRefusal view a old c out found new b c' out' =
+    ((is_column_kind found.kind ≡ true) × StopsAt view a old c out new b c' out' (λ i. IfSome old.held (λ file. record_fault file a.section a.fixed a.asked i ≡ Some found)))
+    ⊎ ((found.kind ≡ ValueRange) × StopsOutside view a old c out new b c' out')
+
+-- Why not: a record has a fault, or a value that the cloud doesn't take; the source failed at a record; the target failed; the
 -- new file would be too large; or memory ran out, which is wanted for strings alone.
 abbrev pub IsCopyCause : {T : Type 0} → (T → TargetView) → Slice → SourceView → Cloud → Writing T → RunFault → SourceView → Blocks → Cloud → Writing T → Type 0
-IsCopyCause view a old c out (Refused found) new b c' out' =
-    (is_column_kind found.kind ≡ true) × StopsAt view a old c out new b c' out' (λ i. IfSome old.held (λ file. record_fault file a.section a.fixed a.asked i ≡ Some found))
+IsCopyCause view a old c out (Refused found) new b c' out' = IsRefusal view a old c out found new b c' out'
 IsCopyCause view a old c out Source new b c' out' = StopsAt view a old c out new b c' out' (λ i. Rose old.faults new.faults)
 IsCopyCause view a old c out Out new b c' out' = AreSpent c' out' × Rose (view out.target).faults (view out'.target).faults
 IsCopyCause view a old c out Memory new b c' out' = HasStrings c.kinds
