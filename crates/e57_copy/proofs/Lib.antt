@@ -2,5 +2,6 @@ pub mod Strings
 pub mod Columns
 pub mod Found
 pub mod Adding
-pub mod Copying
 pub mod Handing
+pub mod Testing
+pub mod Copying

@@ -1,5 +1,6 @@
 pub mod Found
 pub mod Adding
+pub mod Limits
 pub mod Copying
 pub mod Items
 pub mod Rewriting
