@@ -19,6 +19,8 @@ use Rattle.e57_chunk_out.specs.declared.section.Begun.{Begun}
 use Rattle.e57_column.specs.Column.{kind_of}
 use Rattle.e57_blocks.specs.Block.{Block}
 use Rattle.e57_copy.specs.Adding.{block_kinds, with_columns, AddsRecords, IsStanding, LosesRun, PassesWith}
+use Rattle.e57_copy.specs.Items.{AreAlike}
+use Rattle.e57_copy.proofs.Alike.{alike_many}
 use Rattle.e57_copy.proofs.Columns.{columns_long, first_kept, first_with, join_assoc, join_none, later_block, long_with, no_records, none_columns}
 
 -- ---- a cloud that stands for some records
@@ -163,5 +165,7 @@ passes_later view n m xs ys a b out mid adds passes = record {
 }
 
 -- there is a field
-pub some_kinds : (c : Cloud) (blocks : List Block) → c.kinds ≡ block_kinds blocks → 0 < length blocks → 0 < length c.kinds
-some_kinds c blocks kinds some = rw (kinds, length-map blocks (λ (b : Block). kind_of b.column.items)) some
+pub some_kinds : (c : Cloud) (blocks : List Block) → AreAlike (block_kinds blocks) c.kinds → 0 < length blocks → 0 < length c.kinds
+some_kinds c blocks alike some =
+    let many : length blocks ≡ length c.kinds = sym (length-map blocks (λ (b : Block). kind_of b.column.items)) ∙ alike_many (block_kinds blocks) c.kinds alike in
+    omega (arith, many, some)

@@ -1,18 +1,24 @@
 -- The records of a slice, copied run after run.
 use Rattle.std.proofs.Common.{◌≡◌, ℕ, ◌+◌, ◌-◌, ◌<◌, ◌≤◌, List, [], ◌∷◌, map, length, zero, suc, false, Some, refl, sym, subst, ap, ◌∙◌, arith, inl, inr}
-use Rattle.std.specs.Prelude.{IfSome, get_or}
+use Rattle.std.specs.Prelude.{IfSome, get_or, slice_get}
+use Rattle.std.specs.Option.{option_map}
+use Rattle.std.proofs.lemmas.Option.{slice_get-map}
 use Rattle.std.specs.List.{AllByRecursion}
 use Rattle.e57_base.specs.Source.{SourceView}
 use Rattle.e57_base.specs.Target.{TargetView}
 use Rattle.e57_base.specs.Fault.{open_as_run, write_as_run}
+use Rattle.e57_base.specs.declared.fault.Fault.{Fault}
+use Rattle.e57_base.specs.declared.fault.RunFault.TheVariants as as_run
 use Rattle.e57_base.specs.declared.fault.OpenFault.{OpenFault}
 use Rattle.e57_base.specs.declared.fault.OpenFault.TheVariants as lost
 use Rattle.e57_base.specs.declared.fault.WriteFault.{WriteFault}
 use Rattle.e57_base.specs.declared.fault.WriteFault.TheVariants as unwritten
 use Rattle.e57_base.proofs.CountLaws.{rose_before}
 use Rattle.e57_base.proofs.Lists.{all_map}
-use Rattle.e57_base.proofs.Told.{told_all, told_both, told_here}
-use Rattle.e57_layout.specs.Values.{ItemKind, Value, strings}
+use Rattle.e57_base.proofs.Told.{told_all, told_both, told_here, told_map}
+use Rattle.e57_layout.specs.Values.{item_kind, ItemKind, Value, strings}
+use Rattle.e57_layout.specs.declared.field.Field.{Field}
+use Rattle.e57_cloud.specs.Cloud.{Leaf}
 use Rattle.e57_layout.specs.Packing.{join_columns}
 use Rattle.e57_page_out.specs.Sequences.{Leaves}
 use Rattle.e57_page_out.specs.Writing.{Writing, IsBeingWritten}
@@ -20,14 +26,18 @@ use Rattle.e57_page_out.proofs.Sequences.{leaves_later, leaves_still}
 use Rattle.e57_stream.specs.Asking.{AsksMet}
 use Rattle.e57_stream.proofs.AskingLaws.{asks_met_on, asks_met_map}
 use Rattle.e57_column.specs.Column.{kind_of}
-use Rattle.e57_blocks.specs.Block.{Block, Holds}
+use Rattle.e57_blocks.specs.Block.{Block, held_item, Holds}
 use Rattle.e57_blocks.specs.Runs.{HasRecords}
 use Rattle.e57_blocks.specs.Fields.{Blocks, Slice, OnSlice, slice_at, field_of, record_fault, IsOf, AreOf, AreBlocks, IsReady, AreOfFile, FillsBlocks, FillsNoBlocks, IsBlocksCause}
-use Rattle.e57_chunk_out.specs.CloudCalls.{HasStrings, IsBetween}
+use Rattle.e57_chunk_out.specs.CloudCalls.{kinds_in, HasStrings, IsBetween}
 use Rattle.e57_chunk_out.specs.Standing.{Cloud}
 use Rattle.e57_copy.specs.Found.{asked_kinds, AreFoundColumns}
 use Rattle.e57_copy.specs.Adding.{block_kinds, held_columns, AddsRecords, LosesRun}
-use Rattle.e57_copy.specs.Copying.{AreOfSlice, AreSame, CopiesAll, CopiesFirst, CopiesNot, StandBefore}
+use Rattle.e57_copy.specs.Copying.{AreOfSlice, AreSame, CopiesAll, CopiesFirst, CopiesNot, IsOutside, StandBefore}
+use Rattle.e57_copy.specs.Items.{AreAlike}
+use Rattle.e57_copy.specs.Limits.{IsRunOutside}
+use Rattle.e57_blocks.proofs.Faults.{item_held}
+use Rattle.e57_copy.proofs.Alike.{none_alike, strings_alike}
 use Rattle.e57_copy.proofs.Columns.{columns_long, no_records}
 use Rattle.e57_copy.proofs.Found.{found_columns_both, found_none, kinds_asked, slice_found}
 use Rattle.e57_copy.proofs.Adding.{adds_both, adds_none, passes_later}
@@ -64,6 +74,11 @@ same_on first b after from count same of are = record { section = of.in_section 
 pub kinds_same : (first b : Blocks) → AreSame first b → block_kinds b.blocks ≡ block_kinds first.blocks
 kinds_same first b same = kinds_asked b.blocks ∙ ap asked_kinds same.fields ∙ sym (kinds_asked first.blocks)
 
+all_at : {X : Type 0} (P : X → Type 0) (xs : List X) (j : ℕ) (x : X) → slice_get xs j ≡ Some x → AllByRecursion P xs → P x
+all_at P [] j x is all = absurd cc
+all_at P (y ∷ ys) zero x is all = let same : y ≡ x = cc in subst P same all.0
+all_at P (y ∷ ys) (suc j) x is all = all_at P ys j x is all.1
+
 holds_later : (old new : SourceView) (blocks : List Block) → new.held ≡ old.held → AreOfFile old blocks → AreOfFile new blocks
 holds_later old new blocks same holds = told_here (λ file. AllByRecursion (Holds file) blocks) old.held new.held same holds
 
@@ -82,15 +97,17 @@ module _ {T : Type 0} (view : T → TargetView) (first : Blocks) (from count : �
   abbrev a : Slice
   a = slice_at first from count
 
-  pub copies_none : c.kinds ≡ block_kinds first.blocks → StandBefore first from old → IsBetween c → c.is_spent ≡ false → IsBeingWritten view out → CopiesFirst view a 0 old c out old first c out
-  copies_none kinds stand between unspent state =
+  pub copies_none : AreAlike (block_kinds first.blocks) c.kinds → StandBefore first from old → IsBetween c → c.is_spent ≡ false → IsBeingWritten view out → CopiesFirst view a 0 old c out old first c out
+  copies_none alike stand between unspent state =
       let none : from + 0 ≡ from = omega arith in
       record {
         within = omega arith;
         before = subst (λ (i : ℕ). StandBefore first i old) (sym none) stand;
         columns = no_records c.kinds;
         found = told_all (λ file. AreFoundColumns file a.section a.fixed a.asked a.from (no_records c.kinds)) old.held
-            (λ file. subst (λ (ks : List ItemKind). AreFoundColumns file a.section a.fixed a.asked a.from (no_records ks)) (sym (kinds ∙ kinds_asked first.blocks)) (found_none file a.section a.fixed a.asked a.from));
+            (λ file.
+            subst (λ (columns : List (List Value)). AreFoundColumns file a.section a.fixed a.asked a.from columns) (ap no_records (sym (kinds_asked first.blocks)) ∙ none_alike (block_kinds first.blocks) c.kinds alike)
+            (found_none file a.section a.fixed a.asked a.from));
         adds = adds_none view c out between unspent state;
       }
 
@@ -186,7 +203,63 @@ module _ {T : Type 0} (view : T → TargetView) (first : Blocks) (from count : �
         cause = subst HasStrings copies.adds.kinds lost.cause.1;
       }
 
-    module _ (new : SourceView) (after : Blocks) (some : 0 < want) (kinds : c.kinds ≡ block_kinds first.blocks) (of : AreOf b.section b.fixed after) (fault : OpenFault) (fails : FillsNoBlocks (slice_at b i want) mid b.blocks fault new after.blocks) where
+      -- one of them isn't within the cloud's limits
+      outside_here : (fields : List Field) (found : Fault) → c.kinds ≡ kinds_in fields → (outside : IsRunOutside fields after.blocks i m found) → (file : List ℕ) → AllByRecursion (Holds file) after.blocks → IsOutside a c.kinds file outside.outside.k
+      outside_here fields found kinds outside file holds =
+          let one = outside.outside in
+          let low = one.after in
+          let high = one.before in
+          let has = all_at (HasRecords i m) after.blocks outside.j outside.block outside.of_block filled.have in
+          let first_has = has.0 in
+          let last_has = has.1 in
+          record {
+            j = outside.j;
+            field = field_of outside.block;
+            asked = subst (λ (asked : List (ℕ × Leaf)). slice_get asked outside.j ≡ Some (field_of outside.block)) filled.are.fields (slice_get-map field_of after.blocks outside.j ∙ ap (option_map field_of) outside.of_block);
+            kind = item_kind outside.field.kind;
+            of_cloud = subst (λ (ks : List ItemKind). slice_get ks outside.j ≡ Some (item_kind outside.field.kind)) (sym kinds)
+                (slice_get-map (λ (f : Field). item_kind f.kind) fields outside.j ∙ ap (option_map (λ (f : Field). item_kind f.kind)) outside.of_cloud);
+            value = held_item outside.block (one.k - outside.block.first);
+            item = item_held file a.section a.fixed outside.block one.k (all_at (IsOf a.section a.fixed) after.blocks outside.j outside.block outside.of_block filled.are.all)
+                (all_at (Holds file) after.blocks outside.j outside.block outside.of_block holds) (omega (arith, first_has, low), omega (arith, last_has, high));
+            outside = one.outside;
+          }
+
+      pub stops_outside : (fields : List Field) (found : Fault) → c.kinds ≡ kinds_in fields → IsRunOutside fields after.blocks i m found → CopiesNot view a old c out (as_run.Refused found) new after c' out'
+      stops_outside fields found kinds outside =
+          let one = outside.outside in
+          let low_one = one.after in
+          let high_one = one.before in
+          let few = filled_within in
+          record {
+            met = asks_on new fills.met;
+            left = left_at;
+            cause = inr (
+              ap (λ (f : Fault). f.kind) one.is,
+              record {
+                n = i - from;
+                copies = record {
+                  within = omega (arith, high, low);
+                  before = subst (λ (k : ℕ). StandBefore after k new) (sym place)
+                      (record {
+                        all = all_in first after same_filled filled.are;
+                        ready = all_map (HasRecords i m) (IsReady i) after.blocks (λ b has. let low = has.0 in let high = has.1 in inr (low, omega (arith, high))) filled.have;
+                        holds = holds_later mid new after.blocks filled.met.asks.same.held filled.holds;
+                      });
+                  columns = copies.columns;
+                  found = copies.found;
+                  adds = copies.adds;
+                };
+                i = one.k;
+                after = omega (arith, low_one, low);
+                before = omega (arith, high_one, few);
+                outside = told_map (λ file. AllByRecursion (Holds file) after.blocks) (λ file. IsOutside a c.kinds file one.k) old.held (outside_here fields found kinds outside)
+                    (told_here (λ file. AllByRecursion (Holds file) after.blocks) mid.held old.held (sym met.asks.same.held) filled.holds);
+              },
+            );
+          }
+
+    module _ (new : SourceView) (after : Blocks) (some : 0 < want) (alike : AreAlike (block_kinds first.blocks) c.kinds) (of : AreOf b.section b.fixed after) (fault : OpenFault) (fails : FillsNoBlocks (slice_at b i want) mid b.blocks fault new after.blocks) where
       unfilled : FillsNoBlocks (part a i want) mid b.blocks fault new after.blocks
       unfilled = subst (λ (s : Slice). FillsNoBlocks s mid b.blocks fault new after.blocks) (slice_is first b from count i want same) fails
 
@@ -211,7 +284,7 @@ module _ {T : Type 0} (view : T → TargetView) (first : Blocks) (from count : �
           by_fault (lost.Refused found) (kind, wrong) = record {
             met = asks_on new fails.met;
             left = left_at;
-            cause = (
+            cause = inl (
               kind,
               record {
                 n = i - from;
@@ -230,7 +303,7 @@ module _ {T : Type 0} (view : T → TargetView) (first : Blocks) (from count : �
           by_fault lost.Memory (x, (k, below, is), needs) = record {
             met = asks_on new fails.met;
             left = left_at;
-            cause = subst HasStrings (kinds_same first b same ∙ sym kinds) (strings_among b.blocks k x below is needs.texts);
+            cause = strings_alike (block_kinds first.blocks) c.kinds alike (subst HasStrings (kinds_same first b same) (strings_among b.blocks k x below is needs.texts));
           }
 
   -- all were put

@@ -1,26 +1,24 @@
 -- The items of a run, handed to a cloud field by field.
-use Rattle.std.proofs.Common.{◌≡◌, ℕ, zero, suc, ◌+◌, ◌-◌, ◌%◌, ◌<◌, ◌≤◌, List, [], ◌∷◌, ◌++◌, length, take, get_or, sym, subst, ap, ◌∙◌, arith, inl, inr}
+use Rattle.std.proofs.Common.{◌≡◌, ℕ, zero, suc, ◌+◌, ◌-◌, ◌%◌, ◌<◌, ◌≤◌, List, [], ◌∷◌, length, get_or, sym, subst, ap, ◌∙◌, arith}
 use Rattle.std.specs.List.{AllByRecursion}
-use Rattle.std.proofs.lemmas.List.{get_or-map, length-map, take_all, take_more}
+use Rattle.std.proofs.lemmas.List.{get_or-map, length-map}
 use Rattle.std.proofs.lemmas.List.FromFn.{length-map-range_with_len}
-use Rattle.e57_base.proofs.Lists.{all_append}
 use Rattle.e57_layout.specs.Values.{ItemKind, strings, Value}
 use Rattle.e57_layout.specs.Items.{AreColumns, AreItems}
 use Rattle.e57_column.specs.Column.{kind_of as column_kind}
 use Rattle.e57_blocks.specs.Block.{Block, held_item}
-use Rattle.e57_blocks.specs.Runs.{held_values}
+use Rattle.e57_blocks.specs.Runs.{held_values, IsRunOf}
+use Rattle.e57_blocks.specs.declared.block.Run.{Run}
 use Rattle.e57_chunk_out.specs.CloudCalls.{in_block, kind_of, most_of_block, waiting_of, with_items, HasStrings, IsBetween}
 use Rattle.e57_chunk_out.specs.Standing.{Cloud}
 use Rattle.e57_copy.specs.Adding.{block_kinds, held_columns, with_columns}
+use Rattle.e57_copy.specs.Items.{AreAlike, IsAlike}
+use Rattle.e57_copy.proofs.Alike.{alike_at, alike_many, run_alike, strings_in}
 use Rattle.e57_copy.proofs.Columns.{joined_to, joined_all, joined_at, joined_more, joined_none}
 
 -- the first j fields have their items
 abbrev pub handed : Cloud → ℕ → List (List Value) → Cloud
 handed c j columns = record c { pending = joined_to j c.pending columns }
-
--- the items of a block are of its field
-abbrev pub HasItems : ℕ → ℕ → Block → Type 0
-HasItems i n b = AreItems (column_kind b.column.items) (held_values b i n)
 
 pub length-held : (b : Block) (i n : ℕ) → length (held_values b i n) ≡ n
 length-held b i n = length-map-range_with_len (held_item b) (i - b.first) n
@@ -33,24 +31,39 @@ left_at left j [] all below = absurd (omega arith)
 left_at left zero (x ∷ columns) all below = all.0
 left_at left (suc j) (x ∷ columns) all below = left_at left j columns all.1 (omega arith)
 
-module _ (c : Cloud) (blocks : List Block) (i n j : ℕ) (b : Block) (kinds : c.kinds ≡ block_kinds blocks) (below : j < length blocks) (is : b ≡ get_or blocks j b) where
-  pub handed_kind : kind_of (handed c j (held_columns blocks i n)) j ≡ column_kind b.column.items
-  handed_kind =
-      ap (λ (ks : List ItemKind). get_or ks j strings) kinds
-      ∙ get_or-map (λ (x : Block). column_kind x.column.items) blocks j b strings below
-      ∙ ap (λ (x : Block). column_kind x.column.items) (sym is)
+columns_at : (kinds : List ItemKind) (n : ℕ) (columns : List (List Value)) (j : ℕ) → j < length kinds → AreColumns kinds n columns → AreItems (get_or kinds j strings) (get_or columns j [])
+columns_at [] n columns j below are = absurd (omega arith)
+columns_at (kind ∷ kinds) n [] j below are = absurd are
+columns_at (kind ∷ kinds) n (column ∷ columns) zero below are = are.1
+columns_at (kind ∷ kinds) n (column ∷ columns) (suc j) below are = columns_at kinds n columns j (omega arith) are.2
+
+module _ (c : Cloud) (blocks : List Block) (i n j : ℕ) (b : Block) (alike : AreAlike (block_kinds blocks) c.kinds) (below : j < length blocks) (is : b ≡ get_or blocks j b) where
+  kinds_many : length c.kinds ≡ length blocks
+  kinds_many = sym (alike_many (block_kinds blocks) c.kinds alike) ∙ length-map blocks (λ (x : Block). column_kind x.column.items)
 
   pub kinds_below : j < length c.kinds
-  kinds_below = rw (kinds, length-map blocks (λ (x : Block). column_kind x.column.items)) below
+  kinds_below = let many = kinds_many in omega (arith, many, below)
+
+  kind_alike : IsAlike (column_kind b.column.items) (kind_of c j)
+  kind_alike =
+      subst (λ (kind : ItemKind). IsAlike kind (kind_of c j))
+      (get_or-map (λ (x : Block). column_kind x.column.items) blocks j b strings below ∙ ap (λ (x : Block). column_kind x.column.items) (sym is))
+      (alike_at (block_kinds blocks) c.kinds j (rw (length-map blocks (λ (x : Block). column_kind x.column.items)) below) alike)
+
+  -- the run of a block is one of the cloud's field
+  pub handed_run : (run : Run) → IsRunOf (column_kind b.column.items) run → IsRunOf (kind_of (handed c j (held_columns blocks i n)) j) run
+  handed_run run of = run_alike (column_kind b.column.items) (kind_of c j) run kind_alike of
+
+  column_held : get_or (held_columns blocks i n) j [] ≡ held_values b i n
+  column_held = get_or-map (λ (x : Block). held_values x i n) blocks j b [] below ∙ ap (λ (x : Block). held_values x i n) (sym is)
+
+  -- and so are its items
+  pub handed_items : AreColumns c.kinds n (held_columns blocks i n) → (values : List Value) → values ≡ held_values b i n → AreItems (kind_of (handed c j (held_columns blocks i n)) j) values
+  handed_items fits values are = subst (AreItems (kind_of c j)) (column_held ∙ sym are) (columns_at c.kinds n (held_columns blocks i n) j kinds_below fits)
 
   -- one of them has strings
   pub handed_strings : kind_of (handed c j (held_columns blocks i n)) j ≡ strings → HasStrings c.kinds
-  handed_strings texts = subst HasStrings (sym kinds) (strings_at blocks j below (ap (λ (x : Block). column_kind x.column.items) (sym is) ∙ sym handed_kind ∙ texts))
-    where
-      strings_at : (bs : List Block) (k : ℕ) → k < length bs → column_kind (get_or bs k b).column.items ≡ strings → HasStrings (block_kinds bs)
-      strings_at [] k below texts = absurd (omega arith)
-      strings_at (x ∷ bs) zero below texts = inl texts
-      strings_at (x ∷ bs) (suc k) below texts = inr (strings_at bs k (omega arith) texts)
+  handed_strings texts = strings_in c.kinds j kinds_below texts
 
   module _ (many : length c.pending ≡ length c.kinds) (between : IsBetween c) where
     pending_below : j < length c.pending
@@ -65,31 +78,16 @@ module _ (c : Cloud) (blocks : List Block) (i n j : ℕ) (b : Block) (kinds : c.
 
     pub handed_more : (values : List Value) → values ≡ held_values b i n → with_items (handed c j (held_columns blocks i n)) j values ≡ handed c (j + 1) (held_columns blocks i n)
     handed_more values are =
-        let column : get_or (held_columns blocks i n) j [] ≡ values =
-        get_or-map (λ (x : Block). held_values x i n) blocks j b [] below ∙ ap (λ (x : Block). held_values x i n) (sym is) ∙ sym are in
-        let size : length c.pending ≡ length (held_columns blocks i n) =
-        many ∙ ap (λ (ks : List ItemKind). length ks) kinds ∙ length-map blocks (λ (x : Block). column_kind x.column.items) ∙ sym (length-map blocks (λ (x : Block). held_values x i n)) in
+        let column : get_or (held_columns blocks i n) j [] ≡ values = column_held ∙ sym are in
+        let size : length c.pending ≡ length (held_columns blocks i n) = many ∙ kinds_many ∙ sym (length-map blocks (λ (x : Block). held_values x i n)) in
         let next : j + 1 ≡ suc j = omega arith in
         ap (λ (waiting : List (List Value)). record c { pending = waiting })
         (rw (sym column, next) (joined_more j c.pending (held_columns blocks i n) pending_below size))
 
--- one more has its items
-pub items_more : (blocks : List Block) (i n j : ℕ) (b : Block) → j < length blocks → b ≡ get_or blocks j b → AllByRecursion (HasItems i n) (take j blocks) → HasItems i n b → AllByRecursion (HasItems i n) (take (j + 1) blocks)
-items_more blocks i n j b below is all here =
-    subst (AllByRecursion (HasItems i n)) (sym (take_more blocks j b below ∙ ap (λ (x : Block). take j blocks ++ x ∷ []) (sym is)))
-    (all_append (HasItems i n) (take j blocks) (b ∷ []) all (here, tt))
-
-columns_of : (blocks : List Block) (i n : ℕ) → AllByRecursion (HasItems i n) blocks → AreColumns (block_kinds blocks) n (held_columns blocks i n)
-columns_of [] i n all = tt
-columns_of (b ∷ blocks) i n all = (length-held b i n, all.0, columns_of blocks i n all.1)
-
 -- all have them
-pub handed_all : (c new : Cloud) (blocks : List Block) (i n j : ℕ) → c.kinds ≡ block_kinds blocks → length c.pending ≡ length c.kinds → j ≡ length blocks → new ≡ handed c j (held_columns blocks i n) → AllByRecursion (HasItems i n) (take j blocks)
-    → (new ≡ with_columns c (held_columns blocks i n)) × AreColumns c.kinds n (held_columns blocks i n)
-handed_all c new blocks i n j kinds many end is all =
-    let size : length c.kinds ≡ length blocks = ap (λ (ks : List ItemKind). length ks) kinds ∙ length-map blocks (λ (x : Block). column_kind x.column.items) in
-    let columns : length c.pending ≡ length (held_columns blocks i n) = many ∙ size ∙ sym (length-map blocks (λ (x : Block). held_values x i n)) in (
-      is ∙ ap (λ (waiting : List (List Value)). record c { pending = waiting }) (joined_all j c.pending (held_columns blocks i n) (omega (arith, end, many, size)) columns),
-      subst (λ (ks : List ItemKind). AreColumns ks n (held_columns blocks i n)) (sym kinds)
-          (columns_of blocks i n (subst (AllByRecursion (HasItems i n)) (take_all j blocks (omega (arith, end))) all)),
-    )
+pub handed_all : (c new : Cloud) (blocks : List Block) (i n j : ℕ) → AreAlike (block_kinds blocks) c.kinds → length c.pending ≡ length c.kinds → j ≡ length blocks → new ≡ handed c j (held_columns blocks i n)
+    → new ≡ with_columns c (held_columns blocks i n)
+handed_all c new blocks i n j alike many end is =
+    let size : length c.kinds ≡ length blocks = sym (alike_many (block_kinds blocks) c.kinds alike) ∙ length-map blocks (λ (x : Block). column_kind x.column.items) in
+    let columns : length c.pending ≡ length (held_columns blocks i n) = many ∙ size ∙ sym (length-map blocks (λ (x : Block). held_values x i n)) in
+    is ∙ ap (λ (waiting : List (List Value)). record c { pending = waiting }) (joined_all j c.pending (held_columns blocks i n) (omega (arith, end, many, size)) columns)

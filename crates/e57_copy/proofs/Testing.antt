@@ -1,35 +1,25 @@
 -- The items of some records, and the limits of other fields.
-use Rattle.std.proofs.Common.{◌≡◌, ℕ, zero, suc, ◌+◌, ◌-◌, ◌<◌, ◌≤◌, ℤ, pos, List, [], ◌∷◌, map, length, get_or, drop, Some, refl, sym, subst, ap, ◌∙◌, arith}
-use Rattle.std.specs.Prelude.{slice_get}
+use Rattle.std.proofs.Common.{◌≡◌, ℕ, ◌+◌, ◌-◌, ◌<◌, ◌≤◌, ℤ, pos, List, [], ◌∷◌, map, length, get_or, drop, refl, sym, subst, ap, ◌∙◌, arith}
 use Rattle.std.proofs.lemmas.List.{drop_all, drop_more, get_or-map, length-map}
 use Rattle.std.proofs.lemmas.List.FromFn.{get_or-map-range_with_len}
 use Rattle.std.proofs.lemmas.Option.{slice_get_read}
 use Rattle.e57_base.specs.Fault.{fault}
 use Rattle.e57_base.specs.declared.fault.Fault.{Fault}
 use Rattle.e57_base.specs.declared.kind.Kind.TheVariants.{ValueRange}
-use Rattle.e57_layout.specs.Values.{item_kind, ItemKind, integers, words, strings, Value, whole}
+use Rattle.e57_layout.specs.Values.{item_kind, ItemKind, integers, strings, Value, whole}
 use Rattle.e57_layout.specs.Items.{AreColumns, AreItems, IsItem}
 use Rattle.e57_layout.specs.declared.field.Field.{Field}
 use Rattle.e57_column.specs.Column.{kind_of}
 use Rattle.e57_blocks.specs.Block.{Block, held_item}
 use Rattle.e57_blocks.specs.Runs.{held_values, HasRecords}
-use Rattle.e57_chunk_out.specs.CloudCalls.{kinds_in, IsInteger}
+use Rattle.e57_chunk_out.specs.CloudCalls.{kinds_in}
 use Rattle.e57_copy.specs.Adding.{block_kinds, held_columns}
 use Rattle.e57_copy.specs.Items.{AreAlike, IsAlike}
 use Rattle.e57_copy.specs.Limits.{IsFieldOutside, IsRunOutside}
+use Rattle.e57_copy.proofs.Alike.{alike_at, alike_many}
 use Rattle.e57_copy.proofs.Handing.{length-held}
 
 -- ---- one field
-
--- other fields than those of integers are the same
-pub same_items : (kind other : ItemKind) (values : List Value) → IsAlike kind other → (IsInteger other → ⊥) → AreItems kind values → AreItems other values
-same_items kind (integers low high) values alike not are = absurd (not tt)
-same_items (integers low high) (words w) values alike not are = subst (λ (k : ItemKind). AreItems k values) alike are
-same_items (integers low high) strings values alike not are = subst (λ (k : ItemKind). AreItems k values) alike are
-same_items (words v) (words w) values alike not are = subst (λ (k : ItemKind). AreItems k values) alike are
-same_items (words v) strings values alike not are = subst (λ (k : ItemKind). AreItems k values) alike are
-same_items strings (words w) values alike not are = subst (λ (k : ItemKind). AreItems k values) alike are
-same_items strings strings values alike not are = are
 
 -- the integers that a block holds
 module _ (b : Block) (i n : ℕ) (items : List ℤ) (are : map whole items ≡ held_values b i n) where
@@ -60,20 +50,6 @@ module _ (b : Block) (i n : ℕ) (items : List ℤ) (are : map whole items ≡ h
       }
 
 -- ---- one field after another
-
-pub alike_many : (kinds others : List ItemKind) → AreAlike kinds others → length kinds ≡ length others
-unfolding AreAlike
-alike_many [] [] alike = refl
-alike_many [] (other ∷ others) alike = absurd alike
-alike_many (kind ∷ kinds) [] alike = absurd alike
-alike_many (kind ∷ kinds) (other ∷ others) alike = ap suc (alike_many kinds others alike.1)
-
-pub alike_at : (kinds others : List ItemKind) (j : ℕ) → j < length kinds → AreAlike kinds others → IsAlike (get_or kinds j strings) (get_or others j strings)
-unfolding AreAlike
-alike_at [] others j below alike = absurd (omega arith)
-alike_at (kind ∷ kinds) [] j below alike = absurd alike
-alike_at (kind ∷ kinds) (other ∷ others) zero below alike = alike.0
-alike_at (kind ∷ kinds) (other ∷ others) (suc j) below alike = alike_at kinds others j (omega arith) alike.1
 
 module _ (fields : List Field) (blocks : List Block) (alike : AreAlike (block_kinds blocks) (kinds_in fields)) where
   pub fields_many : length fields ≡ length blocks

@@ -1,6 +1,6 @@
 //! Whether the items of some records are within other limits.
 
-ghost use Rattle.std.specs.Prelude.{◌≡◌, ℕ, ◌+◌, ◌^◌, ◌<◌, ◌≤◌, ◌↔◌, true, map, length, get_or, pos, MatchOption, MatchResult};
+ghost use Rattle.std.specs.Prelude.{◌≡◌, ◌+◌, ◌^◌, ◌<◌, ◌↔◌, true, map, length, get_or, pos, MatchOption, MatchResult};
 ghost use Rattle.std.specs.List.{AllByRecursion};
 ghost use Rattle.e57_layout.specs.Values.{item_kind, ItemKind, Value};
 ghost use Rattle.e57_layout.specs.Items.{AreColumns, AreItems, IsItem};
@@ -15,17 +15,12 @@ use e57_base::{Fault, Kind};
 use e57_blocks::{FieldBlock, Run};
 use e57_layout::{Field, FieldKind};
 
-/// Whether the integers of the `n` records from record `i` on, which all blocks hold, are within the limits of these fields. The
-/// blocks are of fields that differ from these in limits alone.
+/// Whether the integers of the `n` records from record `i` on, which all blocks hold, are within the limits of these
+/// fields. The blocks are of the same fields, but for limits of integers.
 ///
-/// Refuses `ValueRange`, with the record's number and the field's node: of the first field with an integer outside, the first
-/// such record.
-pub fn test_run(
-    blocks: &[FieldBlock],
-    i: u64,
-    n: usize,
-    fields: &[Field],
-) -> Result<(), Fault>
+/// Refuses `ValueRange`, with the number of the record and that of the field's node: of the first field with an integer
+/// outside of its limits, the first such record.
+pub fn test_run(blocks: &[FieldBlock], i: u64, n: usize, fields: &[Field]) -> Result<(), Fault>
     requires have { AllByRecursion (HasRecords i n) blocks.now }
     requires alike { AreAlike (block_kinds blocks.now) (kinds_in fields.now) }
     requires last { i + n < 2 ^ 64 }

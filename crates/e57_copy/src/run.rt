@@ -8,6 +8,7 @@ ghost use Rattle.e57_page_out.specs.Writing.{IsBeingWritten};
 ghost use Rattle.e57_blocks.specs.Runs.{run_values, HasRecords, IsRunInside, IsRunOf};
 ghost use Rattle.e57_chunk_out.specs.CloudCalls.{in_block, kind_of, most_of_block, with_items, HasStrings, IsBetween};
 ghost use Rattle.e57_copy.specs.Adding.{block_kinds, held_columns, with_columns, AddsRecords, IsStanding, LosesRun};
+ghost use Rattle.e57_copy.specs.Items.{AreAlike};
 
 use e57_base::{Target, WriteFault};
 use e57_blocks::{FieldBlock, Run};
@@ -15,7 +16,8 @@ use e57_chunk_out::CloudOut;
 use e57_page_out::PagesOut;
 use std::alloc::AllocError;
 
-/// Puts the `n` records from record `i` on, which all blocks hold, into a cloud of their fields, and ends the block.
+/// Puts the `n` records from record `i` on, which all blocks hold, into a cloud of the same fields, but for limits, within
+/// which these integers are, and ends the block.
 ///
 /// Refuses as `CloudOut::end_block` does. The cloud is spent then; `out` is too, but for some cases of `Memory`.
 pub fn put_run<T: Target>(
@@ -29,7 +31,8 @@ pub fn put_run<T: Target>(
     requires some { 0 < n }
     requires few { n ≤ most_of_block }
     requires fields { (0 < length blocks.now) × (length blocks.now ≤ 512) }
-    requires kinds { cloud.old.kinds ≡ block_kinds blocks.now }
+    requires alike { AreAlike (block_kinds blocks.now) cloud.old.kinds }
+    requires fit { AreColumns cloud.old.kinds n (held_columns blocks.now i n) }
     requires unspent { cloud.old.is_spent ≡ false }
     requires between { IsBetween cloud.old }
     requires standing { IsStanding cloud.old out.old }
@@ -48,17 +51,18 @@ pub fn put_run<T: Target>(
     Ok(())
 }
 
-/// Hands the items of the `n` records from record `i` on, which all blocks hold, to a cloud of their fields, as its block.
+/// Hands the items of the `n` records from record `i` on, which all blocks hold, to such a cloud, as its block.
 fn copy_run(blocks: &[FieldBlock], i: u64, n: usize, cloud: &mut CloudOut) -> Result<(), AllocError>
     requires have { AllByRecursion (HasRecords i n) blocks.now }
     requires few { n ≤ most_of_block }
     requires fields { length blocks.now ≤ 512 }
-    requires kinds { cloud.old.kinds ≡ block_kinds blocks.now }
+    requires alike { AreAlike (block_kinds blocks.now) cloud.old.kinds }
+    requires fit { AreColumns cloud.old.kinds n (held_columns blocks.now i n) }
     requires pending { length cloud.old.pending ≡ length cloud.old.kinds }
     requires unspent { cloud.old.is_spent ≡ false }
     requires between { IsBetween cloud.old }
     ensures { let columns = held_columns blocks.now i n in MatchResult result
-        (λ _. (cloud.new ≡ with_columns cloud.old columns) × AreColumns cloud.old.kinds n columns)
+        (λ _. cloud.new ≡ with_columns cloud.old columns)
         (λ _. (cloud.new.is_spent ≡ true) × HasStrings cloud.old.kinds) }
 {
     for j in 0..blocks.len() {

@@ -4,7 +4,8 @@ use Rattle.e57_layout.specs.Values.{item_kind}
 use Rattle.e57_layout.specs.Items.{AreItems}
 use Rattle.e57_column.specs.Column.{kind_of}
 use Rattle.e57_blocks.specs.Runs.{held_values}
-use Rattle.e57_copy.proofs.Testing.{field_outside, held_many, same_items}
+use Rattle.e57_copy.proofs.Alike.{same_items}
+use Rattle.e57_copy.proofs.Testing.{field_outside, held_many}
 use Rattle.e57_copy.proofs.limits.test_field.Goals as goal
 
 pub returns-in_default : goal.returns-in_default

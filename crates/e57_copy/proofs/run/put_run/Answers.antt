@@ -13,36 +13,36 @@ pub end_block-requires-clause-some : goal.end_block-requires-clause-some
 end_block-requires-clause-some g c =
     let more = held_columns c.args.blocks.now c.args.i c.args.n in
     let many = pending_many c.args.cloud.now c.args.out.now c.requires.standing in
-    let size = length_with c.args.n more c.args.cloud.now c.args.out.now c.in_default.ensures.1 c.requires.between many (some_kinds c.args.cloud.now c.args.blocks.now c.requires.kinds c.requires.fields.0) in
-    subst (λ (x : Cloud). 0 < block_length x) (sym c.in_default.ensures.0) (subst (λ k. 0 < k) (sym size) c.requires.some)
+    let size = length_with c.args.n more c.args.cloud.now c.args.out.now c.requires.fit c.requires.between many (some_kinds c.args.cloud.now c.args.blocks.now c.requires.alike c.requires.fields.0) in
+    subst (λ (x : Cloud). 0 < block_length x) (sym c.in_default.ensures) (subst (λ k. 0 < k) (sym size) c.requires.some)
 
 pub end_block-requires-clause-even : goal.end_block-requires-clause-even
 end_block-requires-clause-even g c =
     let more = held_columns c.args.blocks.now c.args.i c.args.n in
     let many = pending_many c.args.cloud.now c.args.out.now c.requires.standing in
-    subst IsEven (sym c.in_default.ensures.0)
-    (even_with c.args.n more c.args.cloud.now c.args.out.now c.in_default.ensures.1 c.requires.between many (some_kinds c.args.cloud.now c.args.blocks.now c.requires.kinds c.requires.fields.0))
+    subst IsEven (sym c.in_default.ensures)
+    (even_with c.args.n more c.args.cloud.now c.args.out.now c.requires.fit c.requires.between many (some_kinds c.args.cloud.now c.args.blocks.now c.requires.alike c.requires.fields.0))
 
 pub end_block-requires-clause-limit : goal.end_block-requires-clause-limit
 end_block-requires-clause-limit g c =
     let more = held_columns c.args.blocks.now c.args.i c.args.n in
     let many = pending_many c.args.cloud.now c.args.out.now c.requires.standing in
-    let size = length_with c.args.n more c.args.cloud.now c.args.out.now c.in_default.ensures.1 c.requires.between many (some_kinds c.args.cloud.now c.args.blocks.now c.requires.kinds c.requires.fields.0) in
-    subst (λ (x : Cloud). x.count + block_length x ≤ x.at_most) (sym c.in_default.ensures.0) (subst (λ k. c.args.cloud.now.count + k ≤ c.args.cloud.now.at_most) (sym size) c.requires.limit)
+    let size = length_with c.args.n more c.args.cloud.now c.args.out.now c.requires.fit c.requires.between many (some_kinds c.args.cloud.now c.args.blocks.now c.requires.alike c.requires.fields.0) in
+    subst (λ (x : Cloud). x.count + block_length x ≤ x.at_most) (sym c.in_default.ensures) (subst (λ k. c.args.cloud.now.count + k ≤ c.args.cloud.now.at_most) (sym size) c.requires.limit)
 
 pub returns-in-Err-end_block : goal.returns-in-Err-end_block
 returns-in-Err-end_block g c =
     let more = held_columns c.args.blocks.now c.args.i c.args.n in
     let many = pending_many c.args.cloud.now c.args.out.now c.requires.standing in
     let lost = c.in-Err-end_block.ensures in
-    loses_block c.args.n more c.args.cloud.now c.args.out.now c.in_default.ensures.1 c.requires.between many g.T.Target.view c.in-Err-end_block.fault c.end_block.new.self c.end_block.new.out
-    (some_kinds c.args.cloud.now c.args.blocks.now c.requires.kinds c.requires.fields.0) lost.0 lost.1
-    (subst (λ (x : Cloud). LosesRecords g.T.Target.view c.args.out.now (PassesBlock x c.args.out.now) (HasStrings x.kinds) c.in-Err-end_block.fault (g.T.Target.view c.end_block.new.out.target)) c.in_default.ensures.0 lost.2)
+    loses_block c.args.n more c.args.cloud.now c.args.out.now c.requires.fit c.requires.between many g.T.Target.view c.in-Err-end_block.fault c.end_block.new.self c.end_block.new.out
+    (some_kinds c.args.cloud.now c.args.blocks.now c.requires.alike c.requires.fields.0) lost.0 lost.1
+    (subst (λ (x : Cloud). LosesRecords g.T.Target.view c.args.out.now (PassesBlock x c.args.out.now) (HasStrings x.kinds) c.in-Err-end_block.fault (g.T.Target.view c.end_block.new.out.target)) c.in_default.ensures lost.2)
 
 pub returns : goal.returns
 returns g c =
     let more = held_columns c.args.blocks.now c.args.i c.args.n in
     let many = pending_many c.args.cloud.now c.args.out.now c.requires.standing in
-    adds_block c.args.n more c.args.cloud.now c.args.out.now c.in_default.ensures.1 c.requires.between many g.T.Target.view c.end_block.new.self c.end_block.new.out
-    (some_kinds c.args.cloud.now c.args.blocks.now c.requires.kinds c.requires.fields.0)
-    (subst (λ (x : Cloud). EndsBlock g.T.Target.view x c.args.out.now c.end_block.new.self c.end_block.new.out) c.in_default.ensures.0 c.in_default-end_block.ensures)
+    adds_block c.args.n more c.args.cloud.now c.args.out.now c.requires.fit c.requires.between many g.T.Target.view c.end_block.new.self c.end_block.new.out
+    (some_kinds c.args.cloud.now c.args.blocks.now c.requires.alike c.requires.fields.0)
+    (subst (λ (x : Cloud). EndsBlock g.T.Target.view x c.args.out.now c.end_block.new.self c.end_block.new.out) c.in_default.ensures c.in_default-end_block.ensures)
