@@ -75,7 +75,8 @@ fn limits_of(field: &Field) -> Option<(i64, i64)>
 fn first_outside(items: &[i64], low: i64, high: i64) -> Option<usize>
     ensures { MatchOption result
         (AreItems (ItemKind.integers low high) (map Value.whole items.now))
-        (λ k. (k < length items.now) × (IsItem (ItemKind.integers low high) (Value.whole (get_or items.now k (pos 0))) → ⊥)) }
+        (λ k. (k < length items.now)
+        × (IsItem (ItemKind.integers low high) (Value.whole (get_or items.now k (pos 0))) → ⊥)) }
 {
     if are_within(items, low, high) {
         return None;

@@ -20,16 +20,17 @@ use e57_layout::Field;
 use e57_page::Pages;
 use e57_page_out::PagesOut;
 
-/// Copies the `count` records from record `from` on: puts them behind those that the cloud has. `fields` are those of the
-/// cloud, in its order; the blocks are of the same fields, but for the limits of integers, and are ready for record
+/// Copies the `count` records from record `from` on: puts them behind those that the cloud has. `fields` are those of
+/// the cloud, in its order; the blocks are of the same fields, but for the limits of integers, and are ready for record
 /// `from`. It may be called again for records further on.
 ///
-/// Refuses the fault of the first of these records that has one, and of that record the fault of the first field that has
-/// one; `Source` if the source failed. The records before it were put then, and cloud and blocks can be used further.
+/// Refuses the fault of the first of these records that has one, and of that record the fault of the first field that
+/// has one; `Source` if the source failed. The records before it were put then, and cloud and blocks can be used
+/// further.
 ///
-/// Refuses a value outside of the limits of its field of `fields`, too: by `ValueRange`, with the number of the record and
-/// that of the field's node. Some records before it were put then, up to 1,023 may not have been, and cloud and blocks can
-/// be used further.
+/// Refuses a value outside of the limits of its field of `fields`, too: by `ValueRange`, with the number of the record
+/// and that of the field's node. Some records before it were put then, up to 1,023 may not have been, and cloud and
+/// blocks can be used further.
 ///
 /// `Out` says that the target failed, `Ask` with `Large` that the new file would pass the last page, and `Memory` that
 /// there is none, which is wanted for strings alone; then the cloud is spent, but for some cases of `Memory`.

@@ -16,8 +16,8 @@ use e57_chunk_out::CloudOut;
 use e57_page_out::PagesOut;
 use std::alloc::AllocError;
 
-/// Puts the `n` records from record `i` on, which all blocks hold, into a cloud of the same fields, but for limits, within
-/// which these integers are, and ends the block.
+/// Puts the `n` records from record `i` on, which all blocks hold, into a cloud of the same fields, but for limits,
+/// within which these integers are, and ends the block.
 ///
 /// Refuses as `CloudOut::end_block` does. The cloud is spent then; `out` is too, but for some cases of `Memory`.
 pub fn put_run<T: Target>(
