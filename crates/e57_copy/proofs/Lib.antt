@@ -6,3 +6,11 @@ pub mod Adding
 pub mod Handing
 pub mod Testing
 pub mod Copying
+pub mod Putting
+pub mod Starting
+pub mod Reading
+pub mod OfCloud
+pub mod Clouds
+pub mod Trees
+pub mod Blobs
+pub mod Paging

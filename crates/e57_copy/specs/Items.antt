@@ -7,7 +7,7 @@ use Rattle.e57_base.specs.declared.fault.AskFault.{AskFault}
 use Rattle.e57_base.specs.declared.fault.AskFault.TheVariants as of_ask
 use Rattle.e57_base.specs.declared.fault.RunFault.{RunFault}
 use Rattle.e57_base.specs.declared.fault.RunFault.TheVariants.{Refused, Source, Out, Memory, Ask}
-use Rattle.e57_layout.specs.Values.{ItemKind, integers, words, strings}
+use Rattle.e57_layout.specs.Values.{ItemKind, integers}
 use Rattle.e57_page.specs.Place.{payload_length}
 use Rattle.e57_page_out.specs.Sequences.{Puts, Leaves}
 use Rattle.e57_page_out.specs.Writing.{Writing, most_bytes}
@@ -17,6 +17,7 @@ use Rattle.e57_tree.specs.Held.{cloud_in, blob_in, blobs_of, fields_in}
 use Rattle.e57_tree.specs.declared.items.Item.{Item}
 use Rattle.e57_tree.specs.declared.items.Item.TheVariants as item
 use Rattle.e57_verdict.specs.Things.{Body, Thing, body_of, thing_fault}
+use Rattle.e57_verdict.specs.Verdict.{all_pages_fault}
 use Rattle.e57_plain.specs.Valid.{IsBody, kinds_in}
 use Rattle.e57_plain.specs.Written.{body_section, section_offset, whole_pages}
 use Rattle.e57_check.specs.Asking.{AsksWhere}
@@ -69,18 +70,26 @@ pub record CopiesItem {T : Type 0} (view : T → TargetView) (n : ℕ) (stated :
   pub of_file : IfSome old.held (λ file. IsSoundThing thing file → body ≡ body_of file thing)
   pub puts : PutsItem view n stated body out offset out'
 
--- With its section the file would pass its last page.
+-- With its section, if what it has is what is stated of it, the file would pass its last page.
 abbrev pub PassesItem : {T : Type 0} → ℕ → StatedItem → Thing → SourceView → Writing T → AskFault → Type 0
 PassesItem n stated thing old out of_ask.Large =
-    IfSome old.held (λ file. IsSoundThing thing file → most_bytes < out.size + length (body_section n out.size stated (body_of file thing)))
+    IfSome old.held (λ file. IsSoundThing thing file → IsBody stated (body_of file thing)
+    → most_bytes < out.size + length (body_section n out.size stated (body_of file thing)))
 PassesItem n stated thing old out why = ⊥
 
--- Why not: it has a fault in the file, or a value outside of the stated limits; the source or the target failed; memory ran out; or the new file would be too large.
+-- memory is wanted for a cloud with records
+abbrev pub TakesMemory : StatedItem → Type 0
+TakesMemory (stated_cloud n count fields) = 0 < count
+TakesMemory (stated_blob n size) = ⊥
+
+-- Why not: it or a page has a fault in the file, or it has a value outside of the stated limits; the source or the target
+-- failed; memory ran out, which no blob wants; or the new file would be too large.
 abbrev pub IsItemCause : {T : Type 0} → (T → TargetView) → ℕ → StatedItem → Thing → SourceView → SourceView → Writing T → RunFault → Writing T → Type 0
-IsItemCause view n stated thing old new out (Refused found) out' = IfSome old.held (λ file. IsSoundThing thing file → IsBody stated (body_of file thing) → ⊥)
+IsItemCause view n stated thing old new out (Refused found) out' =
+    IfSome old.held (λ file. all_pages_fault file ≡ None → IsSoundThing thing file → IsBody stated (body_of file thing) → ⊥)
 IsItemCause view n stated thing old new out Source out' = Rose old.faults new.faults
 IsItemCause view n stated thing old new out Out out' = Rose (view out.target).faults (view out'.target).faults
-IsItemCause view n stated thing old new out Memory out' = Unit {0}
+IsItemCause view n stated thing old new out Memory out' = TakesMemory stated
 IsItemCause view n stated thing old new out (Ask why) out' = PassesItem n stated thing old out why
 
 -- It was not copied. What the target holds is no whole file.

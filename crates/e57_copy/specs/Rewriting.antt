@@ -1,5 +1,5 @@
 -- A file written anew from an accepted one: what the new file holds, and what the target has where it was not written.
-use Rattle.std.specs.Prelude.{◌≡◌, ◌⊎◌, ℕ, ◌*◌, ◌≤◌, true, false, List, length, Option, Some, None, IfSome, MatchOption}
+use Rattle.std.specs.Prelude.{◌≡◌, ◌⊎◌, ℕ, ◌≤◌, true, false, List, length, Option, Some, None, IfSome, MatchOption}
 use Rattle.std.specs.Option.{option_map}
 use Rattle.e57_base.specs.Count.{raised, Rose}
 use Rattle.e57_base.specs.Source.{SourceView}
