@@ -4,8 +4,6 @@
 #[cfg(test)]
 mod broken;
 #[cfg(test)]
-mod made;
-#[cfg(test)]
 mod plain;
 #[cfg(test)]
 mod plain_chunks;

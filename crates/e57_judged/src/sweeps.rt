@@ -1,8 +1,8 @@
 //! Each byte of a section changed in turn, and the file judged by `check` and by the plain program.
 
-use crate::made::{BIT, Edit, Sample, made};
 use crate::plain::{Cloud, Field, Kind, Stop, judge};
 use crate::verdicts::is_judged;
+use e57_samples::made::{BIT, Edit, Sample, made};
 use std::alloc::{AllocError, Global};
 use std::test::*;
 

@@ -1,6 +1,6 @@
-//! The files that the tables begin from, and changes of their bytes.
+//! The files that tables begin from, and changes of their bytes.
 
-use e57_samples::files::{
+use crate::files::{
     TWO_POINTS_SECTION, TWO_POINTS_TEXT, WordOrder, close_together, file, on_own_pages,
     three_records_logical,
 };
