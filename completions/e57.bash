@@ -9,6 +9,7 @@ _e57_files() {
 _e57_options() {
     case $1 in
         extract) echo --fields= --from= --count= --decimal= ;;
+        repack) echo --chunk= --tight= ;;
     esac
 }
 
@@ -16,7 +17,7 @@ _e57_options() {
 _e57_places() {
     case $1 in
         pages | info | list | check) echo 1 ;;
-        blob | extract) echo 2 ;;
+        blob | extract | repack) echo 2 ;;
         *) echo 0 ;;
     esac
 }
@@ -25,11 +26,15 @@ _e57() {
     local word=${COMP_WORDS[COMP_CWORD]} command=${COMP_WORDS[1]} places option
     COMPREPLY=()
     if [ "$COMP_CWORD" -eq 1 ]; then
-        mapfile -t COMPREPLY < <(compgen -W 'pages info list check blob extract --help --version' -- "$word")
+        mapfile -t COMPREPLY < <(compgen -W 'pages info list check blob extract repack --help --version' -- "$word")
         return
     fi
     places=$(_e57_places "$command")
     if [ "$COMP_CWORD" -eq 2 ] && [ "$places" -gt 0 ]; then
+        _e57_files "$word"
+        return
+    fi
+    if [ "$COMP_CWORD" -eq 3 ] && [ "$command" = repack ]; then
         _e57_files "$word"
         return
     fi

@@ -95,7 +95,7 @@ checks name old new (Err opening.Memory) out out' ending has (is, nothing) =
 abbrev pub HasOneVerdict : Type 0
 HasOneVerdict = (file : List ℕ) (a b : Verdict) → IsVerdict file a → IsVerdict file b → a ≡ b
 
-not_both : (clouds blobs records : ℕ) (found : Fault) → accepted clouds blobs records ≡ refused found → ⊥
+pub not_both : (clouds blobs records : ℕ) (found : Fault) → accepted clouds blobs records ≡ refused found → ⊥
 not_both clouds blobs records found same = cc
 
 done : HasOneVerdict → (name : List ℕ) (before after : Outside) (ending : Ending) → ChecksFile name before.source after.source before.out after.out ending → HasAcceptedFile name before → NoCallFails before after → IsDone true (status_of ending)

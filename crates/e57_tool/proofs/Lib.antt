@@ -10,3 +10,4 @@ pub mod Numbers
 pub mod Names
 pub mod OptionWords
 mod Checking
+pub mod Anew

@@ -1,6 +1,7 @@
 -- The words of a command line, read one after another.
 use Rattle.std.specs.Prelude.{ℕ, ◌+◌, ◌^◌, Bool, ◌&&◌, not, nat_lt, nat_le, if◌then◌else◌, List, [], ◌∷◌, length, map, drop, Option, Some, None, Result, Ok, Err, codes, nat_eq}
 use Rattle.std.specs.List.{list_all, starts_with}
+use Rattle.std.specs.Str.{bytes_eq}
 use Rattle.std.specs.Str.Parse.{digits_value}
 use Rattle.std.specs.String.{string_bytes}
 use Rattle.e57_tool.specs.declared.cursor.Cursor.{Cursor}
@@ -28,6 +29,13 @@ next_place unread = placed unread.at unread.words where
   placed : ℕ → List (List ℕ) → Result (List ℕ × Unread) ℕ
   placed at [] = Err at
   placed at (word ∷ words) = if is_place word then Ok (word, record { at = at + 1; words = words }) else Err at
+
+-- the next word, which may stand in a place and isn't this name, and the words behind it; or the number of the word at fault
+abbrev pub next_other : List ℕ → Unread → Result (List ℕ × Unread) ℕ
+next_other name unread = placed (next_place unread) where
+  placed : Result (List ℕ × Unread) ℕ → Result (List ℕ × Unread) ℕ
+  placed (Ok (word, rest)) = if bytes_eq word name then Err unread.at else Ok (word, rest)
+  placed (Err at) = Err at
 
 -- the most digits of a number
 abbrev pub most_digits : ℕ

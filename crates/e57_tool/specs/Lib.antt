@@ -1,5 +1,6 @@
 pub mod Cursor
 pub mod Options
+pub mod RepackOptions
 pub mod Words
 pub mod Lines
 pub mod Status
@@ -16,3 +17,5 @@ pub mod Blob
 pub mod Extract
 pub mod Commands
 pub mod Check
+pub mod Rewritten
+pub mod Repack

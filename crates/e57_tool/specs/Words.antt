@@ -1,9 +1,11 @@
 -- What the words of a command line ask for.
-use Rattle.std.specs.Prelude.{ℕ, if◌then◌else◌, List, [], ◌∷◌, Result, Ok, Err, codes}
+use Rattle.std.specs.Prelude.{ℕ, Bool, if◌then◌else◌, List, [], ◌∷◌, Result, Ok, Err, codes}
 use Rattle.std.specs.Str.{bytes_eq}
 use Rattle.e57_show.specs.Extract.{Asked, IsLimited, asked_by}
-use Rattle.e57_tool.specs.Cursor.{Unread, next_place, next_number, at_end}
+use Rattle.e57_chunk_out.specs.CloudCalls.{IsChunkLength}
+use Rattle.e57_tool.specs.Cursor.{Unread, next_place, next_other, next_number, at_end}
 use Rattle.e57_tool.specs.Options.{RowsGiven, nothing_given, with_options, rows_options, rows_asked}
+use Rattle.e57_tool.specs.RepackOptions.{RepackGiven, no_repack_given, repack_rows, chunk_given, tight_given}
 use Rattle.e57_tool.specs.declared.words.Ask.{Ask}
 use Rattle.e57_tool.specs.declared.words.Ask.TheVariants as asked
 
@@ -25,6 +27,8 @@ pub data Command : Type 0 where
   BlobOf : (file : List ℕ) → (k : ℕ) → Command
   -- `extract FILE CLOUD`, and options
   ExtractOf : (file : List ℕ) → (what : Asked) → Command
+  -- `repack IN OUT`, and options
+  RepackOf : (file made : List ℕ) → (chunk : ℕ) → (is_tight : Bool) → Command
 
 -- the one place behind a command, and no word behind it
 abbrev pub only_place : Unread → Result (List ℕ) ℕ
@@ -64,6 +68,21 @@ extract_ask unread = of_file (next_place unread) where
   of_file (Ok (file, rest)) = of_cloud file (next_number rest)
   of_file (Err at) = Err at
 
+-- a file's name, the name of a new file, which is another, and options
+abbrev pub repack_ask : Unread → Result Command ℕ
+repack_ask unread = of_file (next_place unread) where
+  of_options : List ℕ → List ℕ → Result RepackGiven ℕ → Result Command ℕ
+  of_options file made (Ok given) = Ok (RepackOf file made (chunk_given given) (tight_given given))
+  of_options file made (Err at) = Err at
+
+  of_made : List ℕ → Result (List ℕ × Unread) ℕ → Result Command ℕ
+  of_made file (Ok (made, rest)) = of_options file made (with_options repack_rows rest.at rest.words no_repack_given)
+  of_made file (Err at) = Err at
+
+  of_file : Result (List ℕ × Unread) ℕ → Result Command ℕ
+  of_file (Ok (file, rest)) = of_made file (next_other file rest)
+  of_file (Err at) = Err at
+
 -- what a command with the words behind it asks for, or the number of the first word at fault
 unfoldable pub command_ask : List ℕ → Unread → Result Command ℕ
 command_ask command words =
@@ -76,6 +95,7 @@ command_ask command words =
     else if bytes_eq command (codes "check") then with_place CheckOf (only_place words)
     else if bytes_eq command (codes "blob") then blob_ask words
     else if bytes_eq command (codes "extract") then extract_ask words
+    else if bytes_eq command (codes "repack") then repack_ask words
     else Err 0
 
 -- What the words ask for, or the number of the first word at fault. The command is word 0. Where a place is missing, it is
@@ -94,8 +114,10 @@ command_of (asked.List file) = ListOf file.now
 command_of (asked.Check file) = CheckOf file.now
 command_of (asked.Blob file k) = BlobOf file.now k
 command_of (asked.Extract file given) = ExtractOf file.now (asked_by given)
+command_of (asked.Repack file made chunk is_tight) = RepackOf file.now made.now chunk is_tight
 
--- no number of records is above the most that may be asked for
+-- no number of records is above the most that may be asked for, and a chunk may have the asked number of them
 abbrev pub IsLimitedAsk : Ask → Type 0
 IsLimitedAsk (asked.Extract file given) = IsLimited given
+IsLimitedAsk (asked.Repack file made chunk is_tight) = IsChunkLength chunk
 IsLimitedAsk _ = Unit {0}

@@ -11,6 +11,7 @@ use crate::extract::show_rows;
 use crate::info::show_info;
 use crate::list::show_list;
 use crate::pages::test_pages;
+use crate::repack::repack_file;
 use crate::text::{put_help, put_version};
 use crate::words::Ask;
 use e57_base::{Sink, Source, Target};
@@ -36,5 +37,8 @@ pub fn perform<S: Source, T: Target, O: Sink>(
         Ask::Check(file) => check_file(alloc, file, source, target, out),
         Ask::Blob(file, k) => show_blob(alloc, file, k, source, target, out),
         Ask::Extract(file, ask) => show_rows(alloc, file, &ask, source, target, out),
+        Ask::Repack(file, made, chunk, tight) => {
+            repack_file(alloc, file, made, chunk, tight, source, target, out)
+        }
     }
 }

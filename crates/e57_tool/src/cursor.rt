@@ -2,7 +2,7 @@
 
 ghost use Rattle.std.specs.Prelude.{◌≡◌, Some, None, Ok, Err, MatchResult};
 ghost use Rattle.std.specs.List.{list_all};
-ghost use Rattle.e57_tool.specs.Cursor.{unread, is_digit, is_place, next_place, number_of, next_number, left_over};
+ghost use Rattle.e57_tool.specs.Cursor.{unread, is_digit, is_place, next_place, number_of, next_number, next_other, left_over};
 
 /// The words ask for nothing.
 #[derive(Clone, Copy, Debug, PartialEq, Eq)]
@@ -47,6 +47,23 @@ impl<'a> Cursor<'a> {
             return Err(fault);
         }
         self.next += 1;
+        Ok(word)
+    }
+
+    /// The next word, which has to be there, not to begin with `--`, and to be another than this name.
+    pub fn other_place(&mut self, name: &str) -> Result<&'a str, WordFault>
+        ensures words { self.new.words.now ≡ self.old.words.now }
+        ensures place { MatchResult result
+            (λ word. next_other name.now (unread self.old) ≡ Ok (word.now, unread self.new))
+            (λ fault. next_other name.now (unread self.old) ≡ Err fault.at) }
+    {
+        let fault = WordFault {
+            at: self.next as u64,
+        };
+        let word = self.place()?;
+        if word == name {
+            return Err(fault);
+        }
         Ok(word)
     }
 

@@ -13,6 +13,8 @@ mod list;
 mod options;
 mod pages;
 mod program;
+mod repack;
+mod repack_options;
 mod status;
 mod text;
 mod words;

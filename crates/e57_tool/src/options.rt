@@ -60,7 +60,7 @@ const MOST_NAMES: usize = 512;
 const MOST_RECORDS: u64 = 1 << 40;
 
 // The value that a word has behind this front, if it begins so.
-fn value_behind<'a>(front: &str, word: &'a str) -> Option<&'a str>
+pub fn value_behind<'a>(front: &str, word: &'a str) -> Option<&'a str>
     ensures { option_map (λ value. value.now) result ≡ value_behind front.now word.now }
 {
     word.strip_prefix(front)

@@ -2,10 +2,11 @@
 
 ghost use Rattle.std.specs.Prelude.{◌≡◌, Ok, Err, map, string_bytes, IfOk, MatchResult};
 ghost use Rattle.e57_tool.specs.Cursor.{unread, at_end};
-ghost use Rattle.e57_tool.specs.Words.{IsLimitedAsk, ask_of, blob_ask, command_ask, command_of, extract_ask, only_place};
+ghost use Rattle.e57_tool.specs.Words.{IsLimitedAsk, ask_of, blob_ask, command_ask, command_of, extract_ask, only_place, repack_ask};
 
 use crate::cursor::{Cursor, WordFault};
 use crate::options::read_options;
+use crate::repack_options::read_repack_options;
 use e57_show::RowsAsk;
 
 /// What the words ask for: a command with its places and options.
@@ -27,6 +28,8 @@ pub enum Ask<'a> {
     Blob(&'a str, u64),
     /// `extract FILE CLOUD`, and options
     Extract(&'a str, RowsAsk<'a>),
+    /// `repack IN OUT`, how many records a chunk has, and whether limits become narrow
+    Repack(&'a str, &'a str, u32, bool),
 }
 
 // The one place behind a command, a file's name, and no word behind it.
@@ -75,6 +78,19 @@ fn read_extract(mut words: Cursor<'_>) -> Result<Ask<'_>, WordFault>
     Ok(Ask::Extract(file, options.of_cloud(cloud)))
 }
 
+// A file's name, the name of a new file, and options.
+fn read_repack(mut words: Cursor<'_>) -> Result<Ask<'_>, WordFault>
+    ensures ask { MatchResult result
+        (λ ask. repack_ask (unread words.entry) ≡ Ok (command_of ask))
+        (λ fault. repack_ask (unread words.entry) ≡ Err fault.at) }
+    ensures limits { IfOk result IsLimitedAsk }
+{
+    let file = words.place()?;
+    let made = words.other_place(file)?;
+    let options = read_repack_options(words)?;
+    Ok(Ask::Repack(file, made, options.chunk_length(), options.is_tight()))
+}
+
 // What a command with the words behind it asks for.
 #[tactic(auto, unfolding(crate::specs::Words::command_ask))]
 fn read_command<'a>(command: &str, words: Cursor<'a>) -> Result<Ask<'a>, WordFault>
@@ -93,6 +109,7 @@ fn read_command<'a>(command: &str, words: Cursor<'a>) -> Result<Ask<'a>, WordFau
         "check" => Ok(Ask::Check(only_place(words)?)),
         "blob" => read_blob(words),
         "extract" => read_extract(words),
+        "repack" => read_repack(words),
         _ => Err(WordFault { at: 0 }),
     }
 }

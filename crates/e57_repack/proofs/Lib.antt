@@ -1,0 +1,9 @@
+mod Lists
+mod Walking
+mod Several
+mod Stepping
+mod Valid
+mod Closing
+mod Beginning
+mod Trees
+mod Rewriting

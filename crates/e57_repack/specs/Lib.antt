@@ -1,0 +1,4 @@
+pub mod Copying
+pub mod Anew
+pub mod Ending
+pub mod Repacking

@@ -1,0 +1,46 @@
+//! A file written anew with chunks of another length.
+
+ghost use Rattle.std.specs.Prelude.{◌≡◌, ◌/◌, false, MatchResult};
+ghost use Rattle.e57_base.specs.Source.{page_length};
+ghost use Rattle.e57_check.specs.Asking.{AsksWhere};
+ghost use Rattle.e57_chunk_out.specs.CloudCalls.{IsChunkLength};
+ghost use Rattle.e57_copy.specs.Rewriting.{Rewrites, RewritesNot};
+ghost use Rattle.e57_repack.specs.Repacking.{repacking};
+
+use crate::anew::write_anew;
+use e57_base::{RunFault, Source, Target};
+use e57_check::judge;
+use e57_page::Pages;
+use std::alloc::Global;
+
+/// Judges an open file, and if it is accepted writes a new file of this name with the same content, in the written form with
+/// `chunk` records a chunk (ASTM E2807, file structure). Gives the target back, and answers the new file's length in bytes.
+///
+/// Refuses the file's first fault, `Source` if the source failed, and `Memory`; the target is then as it was, unless the failure
+/// came while the new file was written. `Out` if the target failed, and `Large` if the new file would pass the limits of the
+/// format: its text, or its pages. What the target holds is then no whole file.
+///
+/// Memory is taken as `e57_check::judge` takes it, and for the offsets of clouds and blobs, the items of each cloud's fields in
+/// blocks, and the text of the XML section.
+pub fn repack<S: Source, T: Target>(
+    alloc: Global,
+    pages: &mut Pages<S>,
+    target: T,
+    name: &str,
+    chunk: u32,
+) -> (T, Result<u64, RunFault>)
+    requires chunk { IsChunkLength chunk }
+    ensures length { pages.new.length ≡ pages.old.length }
+    ensures header { pages.new.header ≡ pages.old.header }
+    ensures source { AsksWhere (λ file. Unit {0}) (pages.old.length / page_length) (S.view pages.old.source) (S.view pages.new.source) }
+    ensures repacks { MatchResult result.1
+        (λ total. Rewrites (repacking chunk false) (S.view pages.old.source) (T.view target) name.now total (T.view result.0))
+        (λ fault. RewritesNot T.view (repacking chunk false) (S.view pages.old.source) (S.view pages.new.source) target name.now fault result.0) }
+{
+    let file = match judge(alloc, pages) {
+        Ok((file, _summary)) => file,
+        Err(fault) => return (target, Err(RunFault::from(fault))),
+    };
+    let _raw = file.tree().raw();
+    write_anew(alloc, &file, file.tree(), chunk, pages, target, name)
+}
