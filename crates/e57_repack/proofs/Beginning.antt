@@ -1,6 +1,6 @@
 -- A file that is begun, and then written to its end, or not.
 use Rattle.std.specs.Prelude.{MatchResult, Result, Ok, Err}
-use Rattle.std.proofs.Common.{◌≡◌, ◌⊎◌, inl, inr, ℕ, ◌≤◌, List, length, replicate, Option, Some, None, IfSome, refl, sym, ap, subst, ◌∙◌, arith}
+use Rattle.std.proofs.Common.{◌≡◌, ◌⊎◌, inl, inr, ℕ, List, replicate, Option, Some, None, refl, sym, ap, subst, ◌∙◌, arith}
 use Rattle.std.specs.Prelude.{MatchOption}
 use Rattle.std.specs.Option.{option_map}
 use Rattle.e57_base.proofs.CountLaws.{rose_before}
@@ -9,9 +9,8 @@ use Rattle.e57_base.specs.Target.{TargetView}
 use Rattle.e57_base.specs.declared.fault.RunFault.{RunFault}
 use Rattle.e57_base.specs.declared.fault.RunFault.TheVariants.{Refused, Source, Out, Memory, Ask}
 use Rattle.e57_page_out.specs.Sequences.{Leaves}
-use Rattle.e57_page_out.specs.Writing.{Writing, IsBegun, IsHeadless, KeepsTarget}
+use Rattle.e57_page_out.specs.Writing.{Writing, IsBegun, KeepsTarget}
 use Rattle.e57_elements.specs.Tree.{Element}
-use Rattle.e57_verdict.specs.Content.{Content}
 use Rattle.e57_verdict.specs.Things.{Thing}
 use Rattle.e57_plain.specs.Written.{plain}
 use Rattle.e57_copy.specs.Rewriting.{CreatesFile, LacksHeader, LeavesPart}

@@ -1,7 +1,6 @@
 -- What is put behind page 0 of a file that is written anew.
-use Rattle.std.proofs.Common.{◌≡◌, ◌⊎◌, inl, inr, ℕ, ◌+◌, ◌*◌, ◌/◌, ◌%◌, ◌<◌, ◌≤◌, true, false, List, ◌++◌, length, Option, Some, None, IfSome, refl, sym, ap, subst, ◌∙◌, arith}
+use Rattle.std.proofs.Common.{◌≡◌, ◌⊎◌, inl, inr, ℕ, ◌+◌, ◌*◌, ◌/◌, ◌%◌, ◌<◌, List, ◌++◌, length, Option, Some, None, IfSome, refl, sym, ap, subst, ◌∙◌, arith}
 use Rattle.std.specs.Option.{option_map}
-use Rattle.e57_base.specs.Count.{Rose}
 use Rattle.e57_base.proofs.CountLaws.{rose_before}
 use Rattle.e57_base.specs.Fault.{write_as_run}
 use Rattle.e57_base.specs.Source.{SourceView}
@@ -15,12 +14,12 @@ use Rattle.e57_base.specs.declared.fault.WriteFault.TheVariants as of_write
 use Rattle.e57_base.proofs.Told.{told_map}
 use Rattle.e57_page_out.specs.Sealed.{pages_for}
 use Rattle.e57_page_out.specs.Sequences.{Leaves}
-use Rattle.e57_page_out.specs.Writing.{Writing, KeepsTarget, IsHeadless, IsUnfinished}
+use Rattle.e57_page_out.specs.Writing.{Writing, IsHeadless, IsUnfinished}
 use Rattle.e57_page_out.proofs.Sequences.{leaves_later}
 use Rattle.e57_page_out.proofs.WritingLaws.{keeps_both}
 use Rattle.e57_elements.specs.Lawful.{IsLawful}
 use Rattle.e57_elements.specs.Tree.{Element}
-use Rattle.e57_nodes.specs.Items.{StatedItem, stated_items}
+use Rattle.e57_nodes.specs.Items.{stated_items}
 use Rattle.e57_nodes.specs.Places.{without_places}
 use Rattle.e57_nodes.specs.Shape.{shape_of}
 use Rattle.e57_nodes.specs.Typed.{typed_fault}
@@ -30,13 +29,13 @@ use Rattle.e57_verdict.specs.Things.{Body, Thing}
 use Rattle.e57_plain.specs.Valid.{AreBodies}
 use Rattle.e57_plain.specs.Written.{Fits, sections_from, offsets_from, sections_of, offsets_of, plain, written_text}
 use Rattle.e57_plain.proofs.Laws.Sections.{length-sections, length-offsets}
-use Rattle.e57_file_out.specs.Closing.{BreaksOff, ClosesFile, HeadlessFile, IsTooLong, IsWithinFile, LeavesFile, whole_file, xml_text}
+use Rattle.e57_file_out.specs.Closing.{ClosesFile, HeadlessFile, IsTooLong, IsWithinFile, LeavesFile, whole_file, xml_text}
 use Rattle.e57_file_out.proofs.InARow.{text-of, content_closed, fits_within, unfit_text, unfit_sections}
 use Rattle.e57_copy.specs.Rewriting.{LacksHeader}
 use Rattle.e57_repack.specs.Anew.{content_with, IsCopied, PassesLimits}
-use Rattle.e57_repack.specs.Copying.{AreSound, bodies_in, CopiesItems, IsItemsCause, LosesItems, PassesFirst, PassesItems, PutsItems}
+use Rattle.e57_repack.specs.Copying.{AreSound, bodies_in, CopiesItems, LosesItems, PassesFirst, PassesItems, PutsItems}
 use Rattle.e57_repack.specs.Ending.{EndsFile, EndsNot, StaysHeadless}
-use Rattle.e57_repack.proofs.Valid.{IsPlain, plain-tree, content-valid, sections-same, offsets-same, plain-size, whole_pages-count}
+use Rattle.e57_repack.proofs.Valid.{plain-tree, content-valid, sections-same, offsets-same, plain-size, whole_pages-count}
 use Rattle.e57_repack.proofs.Walking.{length-items_among}
 
 -- the tree that is written: lawful, and without a fault of its nodes
@@ -173,10 +172,11 @@ file-not-ended view n count d things old new a b c offsets of_write.Target good 
 file-not-ended view n count d things old new a b c offsets of_write.Large good some begun size first left =
     let content = content_with d first.bodies in
     let long = subst (λ k. IfSome a.told_bytes (λ bytes. length bytes ≡ k)) begun size in
-    let now = stands view n d first.bodies a b offsets good begun first.puts in
-    (leaves_later view a b (view c.target) first.puts.wrote.target left.0,
-    told_map (λ file. AreSound things file → first.bodies ≡ bodies_in file things) (λ file. AreSound things file → AreBodies (stated_items (shape_of d)) (bodies_in file things) → Fits n (content_with d (bodies_in file things)) → ⊥) old.held
-    (λ file is sound are. subst (λ (bodies : List Body). Fits n (content_with d bodies) → ⊥) (is sound) (too-long view n d content a b offsets long now left.2)) first.of_file)
+    let now = stands view n d first.bodies a b offsets good begun first.puts in (
+      leaves_later view a b (view c.target) first.puts.wrote.target left.0,
+      told_map (λ file. AreSound things file → first.bodies ≡ bodies_in file things) (λ file. AreSound things file → AreBodies (stated_items (shape_of d)) (bodies_in file things) → Fits n (content_with d (bodies_in file things)) → ⊥) old.held
+          (λ file is sound are. subst (λ (bodies : List Body). Fits n (content_with d bodies) → ⊥) (is sound) (too-long view n d content a b offsets long now left.2)) first.of_file,
+    )
 file-not-ended view n count d things old new a b c offsets of_write.Memory good some begun size first left = leaves_later view a b (view c.target) first.puts.wrote.target left.0
 
 -- ---- items that were not copied

@@ -7,3 +7,5 @@ mod Closing
 mod Beginning
 mod Trees
 mod Rewriting
+mod Limits
+mod Narrowing

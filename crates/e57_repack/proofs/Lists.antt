@@ -1,9 +1,9 @@
 -- Laws of the first items of a list, and of those behind them.
-use Rattle.std.proofs.Common.{◌≡◌, ℕ, zero, suc, ◌+◌, ◌<◌, ◌≤◌, List, [], ◌∷◌, ◌++◌, length, take, drop, Option, Some, None, slice_get, refl, sym, ap, ◌∙◌, arith, add-one}
+use Rattle.std.proofs.Common.{◌≡◌, ℕ, zero, suc, ◌+◌, ◌≤◌, List, [], ◌∷◌, ◌++◌, length, take, drop, Option, Some, None, slice_get, refl, sym, ap, ◌∙◌, arith, add-one}
 use Rattle.std.specs.Option.{option_or}
 use Rattle.e57_base.proofs.Options.{option_or_parts}
 use Rattle.e57_nodes.specs.Items.{StatedItem}
-use Rattle.e57_verdict.specs.Things.{Body, Thing, body_of, thing_fault, things_fault}
+use Rattle.e57_verdict.specs.Things.{Body, Thing, thing_fault, things_fault}
 use Rattle.e57_plain.specs.Valid.{IsBody, AreBodies}
 use Rattle.std.specs.Prelude.{map}
 use Rattle.e57_repack.specs.Copying.{AreSound}

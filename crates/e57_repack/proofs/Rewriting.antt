@@ -7,6 +7,7 @@ use Rattle.e57_base.proofs.Told.{told_map, told_both, told_here}
 use Rattle.e57_base.specs.Fault.{open_as_run}
 use Rattle.e57_base.specs.Source.{SourceView}
 use Rattle.e57_base.specs.Target.{TargetView}
+use Rattle.e57_base.specs.declared.fault.AskFault.{AskFault}
 use Rattle.e57_base.specs.declared.fault.AskFault.TheVariants as of_ask
 use Rattle.e57_base.specs.declared.fault.OpenFault.{OpenFault}
 use Rattle.e57_base.specs.declared.fault.OpenFault.TheVariants as of_open
@@ -20,29 +21,29 @@ use Rattle.e57_nodes.specs.Shape.{Shape, shape_of}
 use Rattle.e57_nodes.specs.Typed.{typed_fault}
 use Rattle.e57_nodes.specs.Places.{without_places}
 use Rattle.e57_verdict.specs.Content.{Content, IsContent}
-use Rattle.e57_verdict.specs.Things.{Body, Thing, things_in, things_fault}
+use Rattle.e57_verdict.specs.Things.{Body, things_in, things_fault}
 use Rattle.std.specs.Option.{option_or}
 use Rattle.e57_page.specs.File.{opening_fault, logical_size}
 use Rattle.e57_page.specs.Header.{header_of}
 use Rattle.e57_page.specs.XmlSection.{xml_span_fault}
-use Rattle.e57_verdict.specs.Verdict.{IsSoundFile, all_pages_fault, fault_behind_text}
+use Rattle.e57_verdict.specs.Verdict.{IsSoundFile, IsVerdict, refused, all_pages_fault, fault_behind_text}
 use Rattle.e57_verdict.proofs.Laws.Opening.{before-opening}
 use Rattle.e57_plain.specs.Valid.{AreBodies, IsValid, kinds_in}
 use Rattle.e57_plain.specs.Written.{Fits}
 use Rattle.e57_plain.proofs.Laws.Accepted.{content-valid}
-use Rattle.e57_check.specs.Asking.{AsksWhere}
-use Rattle.e57_check.specs.Checking.{HasSoundNodes, IsRejection, Judges, Rejects}
-use Rattle.e57_copy.specs.Items.{IsAlike, AreAlike, IsAlikeItem}
-use Rattle.e57_copy.specs.Rewriting.{Rewriting, Rewrites, RewritesNot, Gives, IsAskCause, LeavesPart, LeavesHeadless}
+use Rattle.e57_check.specs.Checking.{HasSoundNodes, Rejects}
+use Rattle.e57_copy.specs.Items.{IsAlike, AreAlike}
+use Rattle.e57_copy.specs.Rewriting.{Rewriting, Rewrites, RewritesNot, BreaksNew, FallsShort, Gives, LeavesPart, LeavesHeadless}
 use Rattle.e57_repack.specs.Anew.{content_with, IsCopied, LacksEnd, WritesAnew, WritesNot}
 use Rattle.e57_repack.specs.Copying.{AreAlikeItems, AreSound, bodies_in}
+use Rattle.e57_repack.specs.Ranges.{content_in}
 use Rattle.e57_repack.proofs.Closing.{IsGoodTree}
 use Rattle.e57_repack.proofs.Trees.{one-tree}
 use Rattle.e57_repack.proofs.Valid.{plain-tree}
 
 -- ---- each item is alike itself
 
-alike-kind : (kind : ItemKind) → IsAlike kind kind
+pub alike-kind : (kind : ItemKind) → IsAlike kind kind
 alike-kind (integers low high) = tt
 alike-kind (words w) = refl
 alike-kind strings = refl
@@ -63,16 +64,13 @@ alike-nodes nodes e d same other =
 
 -- ---- the file that is read
 
--- the accepted file's content
-abbrev pub content_in : List ℕ → Element → Content
-content_in file e = content_with e (bodies_in file (things_in e))
-
 pub sound-things : (file : List ℕ) (e : Element) → IsSoundFile file e → AreSound (things_in e) file
 unfolding fault_behind_text
 sound-things file e sound =
-    let first = option_or_parts (opening_fault file) (option_or (all_pages_fault file) (xml_span_fault (header_of file) (logical_size file))) (sym (before-opening file) ∙ sound.has_tree.sound) in
-    ((option_or_parts (all_pages_fault file) (xml_span_fault (header_of file) (logical_size file)) first.1).0,
-    (option_or_parts (typed_fault (shape_of e)) (things_fault file (things_in e)) sound.sound).1)
+    let first = option_or_parts (opening_fault file) (option_or (all_pages_fault file) (xml_span_fault (header_of file) (logical_size file))) (sym (before-opening file) ∙ sound.has_tree.sound) in (
+      (option_or_parts (all_pages_fault file) (xml_span_fault (header_of file) (logical_size file)) first.1).0,
+      (option_or_parts (typed_fault (shape_of e)) (things_fault file (things_in e)) sound.sound).1,
+    )
 
 pub is-content : (file : List ℕ) (e : Element) → IsSoundFile file e → IsContent file (content_in file e)
 is-content file e sound = record { tree = e; is_sound = sound; same_tree = refl; same_bodies = refl }
@@ -186,3 +184,62 @@ not-judged view r count old new target name of_open.Memory rejects = inl refl
 pub no-change : (old : SourceView) (nodes : List RawNode) (e : Element) → nodes ≡ preorder e → IfSome old.held (λ file. HasSoundNodes file nodes) → IfSome old.held (IsChange (λ c. c) e e)
 no-change old nodes e same has =
     told_map (λ file. HasSoundNodes file nodes) (IsChange (λ c. c) e e) old.held (λ file is. record { sound = sound-tree file nodes e same is; made = refl }) has
+
+-- ---- what came before
+
+-- the same file, asked for other pages before
+pub rewritten-later : {T : Type 0} (view : T → TargetView) (r : Rewriting) (old mid new : SourceView) (target now : T) (name : List ℕ) (result : Result ℕ RunFault) → mid.held ≡ old.held → old.faults ≤ mid.faults
+    → MatchResult result (λ total. Rewrites r mid (view target) name total (view now)) (λ fault. RewritesNot view r mid new target name fault now)
+    → MatchResult result (λ total. Rewrites r old (view target) name total (view now)) (λ fault. RewritesNot view r old new target name fault now)
+rewritten-later view r old mid new target now name result here rises done = by_result result done
+  where
+    given : (content : Content) → IfSome mid.held (λ file. Gives r file content) → IfSome old.held (λ file. Gives r file content)
+    given content of = told_here (λ file. Gives r file content) mid.held old.held (sym here) of
+
+    breaks : BreaksNew r mid (view target) name (view now) → BreaksNew r old (view target) name (view now)
+    breaks (inl not_begun) = inl not_begun
+    breaks (inr (inl part)) = inr (inl part)
+    breaks (inr (inr lacks)) = inr (inr (record {
+      content = lacks.content;
+      writable = lacks.writable;
+      of_file = given lacks.content lacks.of_file;
+      held = lacks.held;
+      unended = lacks.unended;
+      creates = lacks.creates;
+    }))
+
+    short : (why : AskFault) → (now ≡ target) × IfSome mid.held (λ file. FallsShort r file why) → (now ≡ target) × IfSome old.held (λ file. FallsShort r file why)
+    short why lost = (lost.0, told_here (λ file. FallsShort r file why) mid.held old.held (sym here) lost.1)
+
+    by_fault : (fault : RunFault) → RewritesNot view r mid new target name fault now → RewritesNot view r old new target name fault now
+    by_fault (Refused found) (inl lost) = inl (lost.0, told_here (λ file. IsVerdict file (refused found)) mid.held old.held (sym here) lost.1)
+    by_fault (Refused found) (inr lost) = inr (sym here ∙ lost.0, lost.1)
+    by_fault Source lost = (rose_before old.faults mid.faults new.faults rises lost.0, lost.1)
+    by_fault Out lost = (lost.0, breaks lost.1)
+    by_fault Memory lost = lost
+    by_fault (Ask of_ask.Large) lost = (lost.0, told_here (λ file. (content : Content) × Gives r file content × (Fits r.chunk content → ⊥)) mid.held old.held (sym here) lost.1)
+    by_fault (Ask (of_ask.Cloud x y)) lost = short (of_ask.Cloud x y) lost
+    by_fault (Ask (of_ask.Blob x y)) lost = short (of_ask.Blob x y) lost
+    by_fault (Ask (of_ask.Field x y)) lost = short (of_ask.Field x y) lost
+    by_fault (Ask (of_ask.Keep x y)) lost = short (of_ask.Keep x y) lost
+    by_fault (Ask (of_ask.NotInteger x y)) lost = short (of_ask.NotInteger x y) lost
+    by_fault (Ask (of_ask.Range x y)) lost = short (of_ask.Range x y) lost
+    by_fault (Ask (of_ask.Decimal x y)) lost = short (of_ask.Decimal x y) lost
+    by_fault (Ask (of_ask.Clash x y)) lost = short (of_ask.Clash x y) lost
+    by_fault (Ask (of_ask.Length x y)) lost = short (of_ask.Length x y) lost
+    by_fault (Ask (of_ask.Header x y)) lost = short (of_ask.Header x y) lost
+    by_fault (Ask (of_ask.Width x y)) lost = short (of_ask.Width x y) lost
+    by_fault (Ask (of_ask.Cell x y)) lost = short (of_ask.Cell x y) lost
+
+    by_result : (result : Result ℕ RunFault) → MatchResult result (λ total. Rewrites r mid (view target) name total (view now)) (λ fault. RewritesNot view r mid new target name fault now)
+        → MatchResult result (λ total. Rewrites r old (view target) name total (view now)) (λ fault. RewritesNot view r old new target name fault now)
+    by_result (Ok total) done = record {
+      content = done.content;
+      writable = done.writable;
+      of_file = given done.content done.of_file;
+      held = done.held;
+      total = done.total;
+      ended = done.ended;
+      creates = done.creates;
+    }
+    by_result (Err fault) lost = by_fault fault lost

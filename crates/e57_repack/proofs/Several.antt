@@ -1,20 +1,16 @@
 -- One item more that is copied behind others, or one that is not.
-use Rattle.std.specs.Prelude.{map}
-use Rattle.std.proofs.Common.{◌≡◌, ℕ, suc, ◌+◌, ◌-◌, ◌*◌, ◌/◌, ◌%◌, ◌<◌, ◌≤◌, List, [], ◌∷◌, ◌++◌, length, replicate, Option, Some, None, IfSome, refl, sym, ap, subst, ◌∙◌, arith, append_assoc, length-append, add-zero}
-use Rattle.e57_base.specs.Count.{Rose}
+use Rattle.std.proofs.Common.{◌≡◌, ℕ, suc, ◌+◌, ◌-◌, ◌*◌, ◌/◌, ◌%◌, ◌<◌, List, [], ◌∷◌, ◌++◌, length, replicate, None, refl, sym, ap, subst, ◌∙◌, arith, append_assoc, length-append}
 use Rattle.e57_base.proofs.CountLaws.{rose_before}
 use Rattle.e57_base.specs.Source.{SourceView}
 use Rattle.e57_base.specs.Target.{TargetView}
-use Rattle.e57_base.specs.declared.fault.AskFault.{AskFault}
 use Rattle.e57_base.specs.declared.fault.AskFault.TheVariants as of_ask
 use Rattle.e57_base.specs.declared.fault.RunFault.{RunFault}
 use Rattle.e57_base.specs.declared.fault.RunFault.TheVariants.{Refused, Source, Out, Memory, Ask}
 use Rattle.e57_base.proofs.Told.{told_map, told_both, told_here, told_all}
 use Rattle.e57_page_out.specs.Sealed.{pages_for}
-use Rattle.e57_page_out.specs.Sequences.{Puts, Leaves}
+use Rattle.e57_page_out.specs.Sequences.{Puts}
 use Rattle.e57_page_out.specs.Writing.{Writing, IsBeingWritten, most_bytes}
 use Rattle.e57_page_out.proofs.Sequences.{puts_both, puts_nothing, leaves_later, leaves_still}
-use Rattle.e57_page_out.proofs.WritingLaws.{keeps_both}
 use Rattle.e57_nodes.specs.Items.{StatedItem}
 use Rattle.e57_verdict.specs.Things.{Body, Thing, body_of, thing_fault}
 use Rattle.e57_verdict.specs.Verdict.{all_pages_fault}
@@ -22,13 +18,12 @@ use Rattle.e57_plain.specs.Valid.{IsBody, AreBodies}
 use Rattle.e57_plain.specs.Written.{whole_pages, body_section, section_offset, sections_from, offsets_from}
 use Rattle.e57_plain.proofs.Laws.Pages.{whole_pages-is, length-whole_pages}
 use Rattle.e57_plain.proofs.Laws.Sections.{length-sections}
-use Rattle.e57_check.specs.Asking.{AsksWhere}
 use Rattle.e57_check.proofs.AskingLaws.{asks_where_none, asks_where_on}
 use Rattle.e57_file_out.specs.InARow.{next_page}
 use Rattle.e57_file_out.proofs.InARow.{sections_more, offsets_more}
-use Rattle.e57_copy.specs.Items.{CopiesItem, LosesItem, IsItemCause, PassesItem, PutsItem}
-use Rattle.e57_repack.specs.Copying.{AreSound, bodies_in, PutsItems, CopiesItems, PassesFirst, PassesItems, IsItemsCause, LosesItems}
-use Rattle.e57_repack.proofs.Lists.{SplitAt, sound_parts, bodies_more, body_there, bodies_count, map_append}
+use Rattle.e57_copy.specs.Items.{CopiesItem, LosesItem, IsItemCause, PutsItem}
+use Rattle.e57_repack.specs.Copying.{AreSound, bodies_in, PutsItems, CopiesItems, PassesFirst, IsItemsCause, LosesItems}
+use Rattle.e57_repack.proofs.Lists.{sound_parts, bodies_more, body_there, bodies_count, map_append}
 
 sections-none : (n p : ℕ) (bodies : List Body) → sections_from n p [] bodies ≡ []
 unfolding sections_from
@@ -80,7 +75,7 @@ puts-more view n items bodies item body a b c offsets offset whole same first ne
       begin =
           ap (λ (xs : List ℕ). xs ++ offset ∷ []) first.begin
           ∙ ap (λ k. offsets_from n p items bodies ++ k ∷ [])
-              (next.begins ∙ ap (λ k. section_offset k (body_section n b.size item body)) now.1 ∙ ap (section_offset q) section)
+          (next.begins ∙ ap (λ k. section_offset k (body_section n b.size item body)) now.1 ∙ ap (section_offset q) section)
           ∙ sym (offsets_more n p items bodies item body same);
       wrote =
           subst (λ (xs : List ℕ). Puts view a xs c)
@@ -125,15 +120,16 @@ length-map file (t ∷ ts) = ap suc (length-map file ts)
 -- sections behind which others stand
 sections-front : (n p : ℕ) (items : List StatedItem) (bodies : List Body) (item : StatedItem) (body : Body) (after : List StatedItem) (rest : List Body) → length items ≡ length bodies
     → (behind : List ℕ) × (sections_from n p (items ++ item ∷ after) (bodies ++ body ∷ rest)
-        ≡ (sections_from n p items bodies ++ body_section n (1020 * next_page n p items bodies) item body) ++ behind)
+    ≡ (sections_from n p items bodies ++ body_section n (1020 * next_page n p items bodies) item body) ++ behind)
 unfolding sections_from next_page
 sections-front n p [] [] item body after rest same =
     let first = body_section n (1020 * p) item body in
     let zero : p + 0 / 1020 ≡ p = omega arith in
     let more = sections_from n (p + pages_for (length first)) after rest in
-    let pad = replicate (1020 * pages_for (length first) - length first) 0 in
-    (pad ++ more,
-    ap (λ (xs : List ℕ). xs ++ more) (whole_pages-is first) ∙ append_assoc first pad more ∙ sym (ap (λ k. body_section n (1020 * k) item body ++ (pad ++ more)) zero))
+    let pad = replicate (1020 * pages_for (length first) - length first) 0 in (
+      pad ++ more,
+      ap (λ (xs : List ℕ). xs ++ more) (whole_pages-is first) ∙ append_assoc first pad more ∙ sym (ap (λ k. body_section n (1020 * k) item body ++ (pad ++ more)) zero),
+    )
 sections-front n p [] (b ∷ bodies) item body after rest same = absurd (omega arith)
 sections-front n p (i ∷ items) [] item body after rest same = absurd (omega arith)
 sections-front n p (i ∷ items) (b ∷ bodies) item body after rest same =
@@ -143,12 +139,13 @@ sections-front n p (i ∷ items) (b ∷ bodies) item body after rest same =
     let front = sections_from n p' items bodies in
     let size = length-whole_first first front in
     let pages : p' + length front / 1020 ≡ p + length (whole_pages first ++ front) / 1020 = omega arith in
-    let q = p + length (whole_pages first ++ front) / 1020 in
-    (later.0,
-    ap (λ (xs : List ℕ). whole_pages first ++ xs) later.1
-    ∙ ap (λ k. whole_pages first ++ ((front ++ body_section n (1020 * k) item body) ++ later.0)) pages
-    ∙ sym (append_assoc (whole_pages first) (front ++ body_section n (1020 * q) item body) later.0)
-    ∙ ap (λ (xs : List ℕ). xs ++ later.0) (sym (append_assoc (whole_pages first) front (body_section n (1020 * q) item body))))
+    let q = p + length (whole_pages first ++ front) / 1020 in (
+      later.0,
+      ap (λ (xs : List ℕ). whole_pages first ++ xs) later.1
+          ∙ ap (λ k. whole_pages first ++ ((front ++ body_section n (1020 * k) item body) ++ later.0)) pages
+          ∙ sym (append_assoc (whole_pages first) (front ++ body_section n (1020 * q) item body) later.0)
+          ∙ ap (λ (xs : List ℕ). xs ++ later.0) (sym (append_assoc (whole_pages first) front (body_section n (1020 * q) item body))),
+    )
   where
     length-whole_first : (xs ys : List ℕ) → length (whole_pages xs ++ ys) ≡ 1020 * pages_for (length xs) + length ys
     length-whole_first xs ys = length-append (whole_pages xs) ys ∙ ap (λ k. k + length ys) (length-whole_pages xs)

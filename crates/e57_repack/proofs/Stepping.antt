@@ -1,5 +1,5 @@
 -- The items of a tree that are copied one after another: the first ones, one more, and all.
-use Rattle.std.proofs.Common.{◌≡◌, ℕ, ◌+◌, ◌%◌, ◌<◌, ◌≤◌, List, [], ◌∷◌, ◌++◌, length, take, drop, get_or, Some, None, false, slice_get, refl, sym, ap, subst, ◌∙◌, arith}
+use Rattle.std.proofs.Common.{◌≡◌, ℕ, ◌+◌, ◌%◌, ◌<◌, ◌≤◌, List, [], ◌∷◌, ◌++◌, length, take, drop, get_or, Some, None, false, slice_get, sym, ap, subst, ◌∙◌, arith}
 use Rattle.std.proofs.lemmas.Option.{slice_get-get_or}
 use Rattle.e57_base.specs.Source.{SourceView}
 use Rattle.e57_base.specs.Target.{TargetView}
@@ -13,9 +13,9 @@ use Rattle.e57_tree.specs.Held.{items_of}
 use Rattle.e57_tree.specs.declared.items.Item.{Item}
 use Rattle.e57_verdict.specs.Things.{Thing, things_in}
 use Rattle.e57_check.specs.Checking.{thing_in}
-use Rattle.e57_copy.specs.Items.{stated_in, CopiesItem, IsAlikeItem, IsItem, LosesItem}
+use Rattle.e57_copy.specs.Items.{stated_in, CopiesItem, IsAlikeItem, LosesItem}
 use Rattle.e57_repack.specs.Copying.{AreAlikeItems, CopiesItems, LosesItems}
-use Rattle.e57_repack.proofs.Lists.{SplitAt, split_at, take_whole}
+use Rattle.e57_repack.proofs.Lists.{split_at, take_whole}
 use Rattle.e57_repack.proofs.Several.{copies-more, copies-lost, ended}
 use Rattle.e57_repack.proofs.Walking.{IsAt, item-at, alike-among, alike-at, alike-count, length-items_among, length-things_in}
 

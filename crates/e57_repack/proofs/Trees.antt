@@ -1,5 +1,5 @@
 -- Trees and their nodes: one tree has these nodes.
-use Rattle.std.proofs.Common.{◌≡◌, List, None, refl, sym, ap, subst, ◌∙◌}
+use Rattle.std.proofs.Common.{◌≡◌, List, None, sym, ap, subst, ◌∙◌}
 use Rattle.e57_elements.specs.Lawful.{AreNodes, IsLawful}
 use Rattle.e57_elements.specs.Tree.{Element, preorder}
 use Rattle.e57_elements.specs.declared.tree.RawNode.{RawNode}

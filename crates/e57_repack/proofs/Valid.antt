@@ -1,5 +1,5 @@
 -- The content of a lawful tree and of bodies of its items is valid.
-use Rattle.std.specs.Prelude.{◌≡◌, ℕ, zero, suc, ◌+◌, ◌*◌, ◌/◌, ◌%◌, ◌^◌, ◌<◌, ◌≤◌, List, ◌∷◌, ◌++◌, length, map, replicate, codes, decimal, None}
+use Rattle.std.specs.Prelude.{◌≡◌, ℕ, zero, suc, ◌+◌, ◌*◌, ◌/◌, ◌%◌, ◌^◌, ◌<◌, List, ◌∷◌, length, map, replicate, codes, decimal, None}
 use Rattle.std.specs.Fmt.{digits}
 use Rattle.std.specs.List.{AllByRecursion}
 use Rattle.std.proofs.Common.{refl, sym, ap, subst, ◌∙◌, arith, lit<}
@@ -15,7 +15,7 @@ use Rattle.e57_nodes.proofs.Laws.Stated.{length-stated_items}
 use Rattle.e57_verdict.specs.Content.{Content}
 use Rattle.e57_verdict.specs.Things.{Body}
 use Rattle.e57_plain.specs.Valid.{AreBodies, IsValid, items_in}
-use Rattle.e57_plain.specs.Written.{sections_of, sections_from, offsets_of, offsets_from, plain, written_text, finished, page_count, xml_page}
+use Rattle.e57_plain.specs.Written.{sections_of, sections_from, offsets_of, offsets_from, plain, written_text, page_count, xml_page}
 use Rattle.e57_plain.proofs.Laws.Whole.{placed-tree, plain-is}
 use Rattle.e57_plain.proofs.Laws.Pages.{length-finished}
 use Rattle.e57_plain.proofs.Laws.Sections.{length-sections}

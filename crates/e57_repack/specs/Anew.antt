@@ -56,7 +56,7 @@ BreaksFile n tree things source target name now =
 abbrev pub PassesLimits : ℕ → Element → List Thing → SourceView → AskFault → Type 0
 PassesLimits n tree things source of_ask.Large =
     IfSome source.held (λ file. AreSound things file → AreBodies (stated_items (shape_of tree)) (bodies_in file things)
-        → Fits n (content_with tree (bodies_in file things)) → ⊥)
+    → Fits n (content_with tree (bodies_in file things)) → ⊥)
 PassesLimits n tree things source why = ⊥
 
 -- Why it was not: an item or a page has a fault in the file, or there is a value outside of the limits in the tree; the source or the target failed; memory

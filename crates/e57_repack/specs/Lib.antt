@@ -1,4 +1,5 @@
 pub mod Copying
 pub mod Anew
 pub mod Ending
+pub mod Ranges
 pub mod Repacking

@@ -10,8 +10,8 @@ ghost use Rattle.e57_verdict.specs.Things.{things_in};
 ghost use Rattle.e57_chunk_out.specs.CloudCalls.{IsChunkLength};
 ghost use Rattle.e57_repack.specs.Copying.{AreAlikeItems, CopiesItems, LosesItems};
 
-use e57_copy::copy_item;
 use e57_base::{RunFault, Source, Target};
+use e57_copy::copy_item;
 use e57_file::E57;
 use e57_page::Pages;
 use e57_page_out::PagesOut;

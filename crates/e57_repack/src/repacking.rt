@@ -1,8 +1,9 @@
 //! A file written anew with chunks of another length.
 
-ghost use Rattle.std.specs.Prelude.{◌≡◌, ◌/◌, false, MatchResult};
+ghost use Rattle.std.specs.Prelude.{◌≡◌, ◌/◌, false, IfSome, MatchResult};
 ghost use Rattle.e57_base.specs.Source.{page_length};
 ghost use Rattle.e57_check.specs.Asking.{AsksWhere};
+ghost use Rattle.e57_check.specs.Checking.{HasSoundNodes};
 ghost use Rattle.e57_chunk_out.specs.CloudCalls.{IsChunkLength};
 ghost use Rattle.e57_copy.specs.Rewriting.{Rewrites, RewritesNot};
 ghost use Rattle.e57_repack.specs.Repacking.{repacking};
@@ -10,6 +11,7 @@ ghost use Rattle.e57_repack.specs.Repacking.{repacking};
 use crate::anew::write_anew;
 use e57_base::{RunFault, Source, Target};
 use e57_check::judge;
+use e57_file::E57;
 use e57_page::Pages;
 use std::alloc::Global;
 
@@ -41,6 +43,27 @@ pub fn repack<S: Source, T: Target>(
         Ok((file, _summary)) => file,
         Err(fault) => return (target, Err(RunFault::from(fault))),
     };
+    rewrite(alloc, &file, pages, target, name, chunk)
+}
+
+/// Writes an accepted file anew, with its own tree.
+fn rewrite<S: Source, T: Target>(
+    alloc: Global,
+    file: &E57,
+    pages: &mut Pages<S>,
+    target: T,
+    name: &str,
+    chunk: u32,
+) -> (T, Result<u64, RunFault>)
+    requires sound { IfSome (S.view pages.old.source).held (λ bytes. HasSoundNodes bytes file.now) }
+    requires chunk { IsChunkLength chunk }
+    ensures length { pages.new.length ≡ pages.old.length }
+    ensures header { pages.new.header ≡ pages.old.header }
+    ensures source { AsksWhere (λ file. Unit {0}) (pages.old.length / page_length) (S.view pages.old.source) (S.view pages.new.source) }
+    ensures repacks { MatchResult result.1
+        (λ total. Rewrites (repacking chunk false) (S.view pages.old.source) (T.view target) name.now total (T.view result.0))
+        (λ fault. RewritesNot T.view (repacking chunk false) (S.view pages.old.source) (S.view pages.new.source) target name.now fault result.0) }
+{
     let _raw = file.tree().raw();
-    write_anew(alloc, &file, file.tree(), chunk, pages, target, name)
+    write_anew(alloc, file, file.tree(), chunk, pages, target, name)
 }

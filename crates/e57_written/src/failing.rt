@@ -32,20 +32,19 @@ fn is_refused(alloc: Global, bytes: &[u8]) -> Result<bool, AllocError> {
     Ok(run_on(alloc, &["check", "scan"], bytes.to_vec(alloc)?)?.status == Status::Refused)
 }
 
-// Whether a run was done; where not, with this status, this line, and no file that is accepted.
-fn is_done_or(
+// The run was done, and the target has the whole file.
+fn is_done(alloc: Global, left: &Written) -> Result<bool, AllocError> {
+    Ok(left.is(Status::Done, b"", &three_records(alloc)?))
+}
+
+// The run ended with this status and this line, and the target has no file that is accepted.
+fn is_broken(
     alloc: Global,
     left: &Written,
     status: Status,
     line: &[u8],
-) -> Result<Option<bool>, AllocError> {
-    if left.ended.status == Status::Done {
-        return Ok(Some(left.is(Status::Done, b"", &three_records(alloc)?)));
-    }
-    if !left.ended.is(status, b"", line) || !is_refused(alloc, left.target.bytes())? {
-        return Ok(Some(false));
-    }
-    Ok(None)
+) -> Result<bool, AllocError> {
+    Ok(left.ended.is(status, b"", line) && is_refused(alloc, left.target.bytes())?)
 }
 
 #[test]
@@ -53,30 +52,30 @@ fn each_call_of_the_source_fails(rt: HostRuntime) -> Result<(), Fail> {
     let alloc = rt.alloc();
     for call in 0..100u64 {
         let left = without_source_call(alloc, call)?;
-        if let Some(is_right) = is_done_or(alloc, &left, Status::SourceFault, b"source fault\n")? {
-            assert!(rt; is_right && call > 3, "call {call}");
+        if left.ended.status == Status::Done {
+            assert!(rt; is_done(alloc, &left)? && call > 3, "call {call}");
             return Ok(());
         }
+        let is_right = is_broken(alloc, &left, Status::SourceFault, b"source fault\n")?;
+        assert!(rt; is_right, "call {call}");
     }
     assert!(rt; false, "no run is done");
     Ok(())
 }
 
+// The target is created, gets its three pages and the first one once more, and is ended.
 #[test]
 fn each_call_of_the_target_fails(rt: HostRuntime) -> Result<(), Fail> {
     let alloc = rt.alloc();
     for bytes in [0, 1, 8, 48, 1023] {
-        let mut is_done = false;
-        for call in 0..8u64 {
+        for call in 0..5u64 {
             let left = without_target_call(alloc, call, bytes)?;
-            if let Some(is_right) = is_done_or(alloc, &left, Status::OutFault, b"output fault\n")? {
-                // It is created, has its three pages and the first one once more, and is ended.
-                assert!(rt; is_right && call == 6, "call {call}, {bytes} bytes");
-                is_done = true;
-                break;
-            }
+            let is_right = is_broken(alloc, &left, Status::OutFault, b"output fault\n")?;
+            assert!(rt; is_right, "call {call}, {bytes} bytes");
         }
-        assert!(rt; is_done);
+        let left = without_target_call(alloc, 5, bytes)?;
+        assert!(rt; left.is(Status::OutFault, b"output fault\n", &three_records(alloc)?));
+        assert!(rt; is_done(alloc, &without_target_call(alloc, 6, bytes)?)?);
     }
     Ok(())
 }

@@ -96,7 +96,8 @@ pub fn written(alloc: Global, things: &[Thing<'_>], chunk: u64) -> Result<Vec<u8
     let mut sections = Vec::new(alloc);
     let mut page = 1u64;
     let mut text = String::new(alloc);
-    text.push_str("<?xml version=\"1.0\" encoding=\"UTF-8\"?>\n<e57Root type=\"Structure\">")?;
+    text.push_str("<?xml version=\"1.0\" encoding=\"UTF-8\"?>\n<e57Root type=\"Structure\"")?;
+    text.push_str(if things.is_empty() { "/>" } else { ">" })?;
     for (k, thing) in things.iter().enumerate() {
         let bytes = section_of(alloc, *thing, chunk, page)?;
         let offset = if bytes.is_empty() {
@@ -110,7 +111,9 @@ pub fn written(alloc: Global, things: &[Thing<'_>], chunk: u64) -> Result<Vec<u8
         sections.resize(pages.wrapping_mul(1020), 0)?;
         page = (pages as u64).wrapping_add(1);
     }
-    text.push_str("</e57Root>")?;
+    if !things.is_empty() {
+        text.push_str("</e57Root>")?;
+    }
     let text_pages = text.len().div_ceil(1020) as u64;
     let place = page.wrapping_mul(1024);
     let mut logical = header(

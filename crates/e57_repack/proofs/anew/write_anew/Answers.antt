@@ -1,6 +1,4 @@
-use Rattle.std.specs.Prelude.{◌≡◌, ◌/◌}
 use Rattle.e57_verdict.specs.Things.{things_in}
-use Rattle.e57_base.specs.Target.{TargetView}
 use Rattle.e57_repack.proofs.Beginning.{written-or-not}
 use Rattle.e57_repack.proofs.anew.write_anew.Goals as goal
 

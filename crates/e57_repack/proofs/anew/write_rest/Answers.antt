@@ -1,18 +1,10 @@
-use Rattle.std.specs.Prelude.{◌≡◌, ◌/◌, None, IfSome, false}
-use Rattle.std.proofs.Common.{◌∙◌, refl, sym, subst, ap, List, ℕ, length}
-use Rattle.e57_elements.specs.Lawful.{AreNodes}
-use Rattle.e57_elements.specs.Tree.{Element, preorder}
-use Rattle.e57_elements.specs.declared.tree.RawNode.{RawNode}
-use Rattle.e57_nodes.specs.Items.{stated_items}
-use Rattle.e57_nodes.specs.Shape.{shape_of}
+use Rattle.std.specs.Prelude.{◌/◌}
+use Rattle.std.proofs.Common.{◌∙◌, sym, subst, ap, List, ℕ, length}
 use Rattle.e57_verdict.specs.Things.{things_in}
 use Rattle.e57_base.specs.declared.fault.RunFault.{RunFault}
-use Rattle.e57_tree.specs.Held.{items_of}
-use Rattle.e57_repack.specs.Copying.{CopiesItems}
-use Rattle.e57_repack.specs.Ending.{EndsFile, EndsNot}
-use Rattle.e57_repack.proofs.Closing.{IsGoodTree, file-ended, file-not-ended, items-lost, offsets-count}
+use Rattle.e57_repack.specs.Ending.{EndsNot}
+use Rattle.e57_repack.proofs.Closing.{file-ended, file-not-ended, items-lost, offsets-count}
 use Rattle.e57_repack.proofs.Trees.{good-tree}
-use Rattle.e57_repack.proofs.Stepping.{still-whole}
 use Rattle.e57_repack.proofs.anew.write_rest.Goals as goal
 
 pub returns-in-Err-clause-source : goal.returns-in-Err-clause-source

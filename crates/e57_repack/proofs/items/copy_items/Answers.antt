@@ -1,4 +1,4 @@
-use Rattle.std.proofs.Common.{◌≡◌, ◌/◌, ◌∙◌, refl, sym, subst, arith, List, [], ◌∷◌, ◌++◌, length}
+use Rattle.std.proofs.Common.{◌≡◌, ◌/◌, ◌∙◌, refl, sym, subst, arith, List, [], ◌∷◌, ◌++◌}
 use Rattle.std.specs.Prelude.{slice_index_or}
 use Rattle.e57_tree.specs.declared.items.Item.TheVariants as item
 use Rattle.e57_repack.specs.Copying.{CopiesItems}
@@ -73,10 +73,10 @@ loop-item-preserved g c =
     let offsets = c.loop-item.offsets.items ++ c.in-Ok.offset ∷ [] in
     let done : (e d : Element) → c.args.file.now ≡ preorder e → c.args.tree.now ≡ preorder d → CopiesFirst view c.args.chunk e d (j + 1) count old new c.args.out.now offsets c.copy_item.new.out
     = λ e d same other.
-        first-more view c.args.chunk count e d j x old (g.S.Source.view c.loop-item.pages.source) new c.args.out.now c.loop-item.out c.copy_item.new.out c.loop-item.offsets.items c.in-Ok.offset
-        (both-here e d c.items-item-items.result.now j (item.Cloud 0) (c.requires.alike e d same other)
-        (c.raw-old.ensures.typed e (c.tree.ensures ∙ same)) (c.raw-new.ensures.typed d other) (c.items-item-items.ensures e (c.tree-2.ensures ∙ same)) c.loop-item-test.true)
-        c.requires.whole (c.loop-item.invariant.copies e d same other) (rw c.loop-item.invariant.length at (c.in-Ok.ensures.copies e d same other)) in
+    first-more view c.args.chunk count e d j x old (g.S.Source.view c.loop-item.pages.source) new c.args.out.now c.loop-item.out c.copy_item.new.out c.loop-item.offsets.items c.in-Ok.offset
+    (both-here e d c.items-item-items.result.now j (item.Cloud 0) (c.requires.alike e d same other)
+    (c.raw-old.ensures.typed e (c.tree.ensures ∙ same)) (c.raw-new.ensures.typed d other) (c.items-item-items.ensures e (c.tree-2.ensures ∙ same)) c.loop-item-test.true)
+    c.requires.whole (c.loop-item.invariant.copies e d same other) (rw c.loop-item.invariant.length at (c.in-Ok.ensures.copies e d same other)) in
     let e = c.raw-old.ensures.nodes.tree in
     let d = c.raw-new.ensures.nodes.tree in
     let ready = still-whole view c.args.chunk count (take (j + 1) (stated_items (shape_of d))) (take (j + 1) (things_in e)) old new c.args.out.now c.copy_item.new.out offsets c.requires.free c.requires.whole
