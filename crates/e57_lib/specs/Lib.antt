@@ -12,3 +12,8 @@ pub mod Column
 pub mod Verdict
 pub mod Check
 pub mod Writing
+pub mod Blocks
+pub mod CloudOut
+pub mod Copy
+pub mod Plain
+pub mod Repack

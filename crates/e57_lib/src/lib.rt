@@ -33,21 +33,27 @@ pub mod trees {
 }
 
 /// The records of a cloud: `open_section` opens its section, and a `Column` reads the items of one field into buffers that
-/// the caller lends.
+/// the caller lends. `FieldBlocks` reads several fields side by side, block by block.
 pub mod records {
+    pub use e57_blocks::{FieldBlock, FieldBlocks, Item, Run};
     pub use e57_column::{Column, Stopped, TextsRead};
     pub use e57_layout::Section;
     pub use e57_section::open_section;
 }
 
-/// The verdict on an open file: its first fault, or how many clouds, blobs and records it has.
+/// The verdict on an open file: its first fault, or how many clouds, blobs and records it has; with the file's tree for who
+/// reads on.
 pub mod verdict {
-    pub use e57_check::{Summary, check};
+    pub use e57_check::{Summary, check, judge};
 }
 
-/// A new file: its pages, blobs that are copied, its end; and trees with other limits, fields, records and counts.
+/// A new file: a file written anew; its pages, the section of a cloud block by block, records, clouds and blobs that are
+/// copied, its end; and trees with other limits, fields, records and counts.
 pub mod writing {
+    pub use e57_chunk_out::{CloudOut, Written, items_stand, new_cloud_stands};
+    pub use e57_copy::{copy_item, copy_records};
     pub use e57_edits::{Range, with_cloud, with_counts, with_limits};
     pub use e57_file_out::{close_file, copy_blob};
     pub use e57_page_out::PagesOut;
+    pub use e57_repack::repack;
 }
