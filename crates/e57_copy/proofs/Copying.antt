@@ -48,7 +48,7 @@ use Rattle.e57_copy.proofs.Adding.{adds_both, adds_none, passes_later}
 abbrev pub part : Slice → ℕ → ℕ → Slice
 part a i n = record { section = a.section; fixed = a.fixed; asked = a.asked; from = i; count = n }
 
-part_asks : (a : Slice) (i n : ℕ) (old new : SourceView) → a.from ≤ i → i + n ≤ a.from + a.count → AsksMet (OnSlice (part a i n)) old new → AsksMet (OnSlice a) old new
+pub part_asks : (a : Slice) (i n : ℕ) (old new : SourceView) → a.from ≤ i → i + n ≤ a.from + a.count → AsksMet (OnSlice (part a i n)) old new → AsksMet (OnSlice a) old new
 part_asks a i n old new low high asks =
     asks_met_map (OnSlice (part a i n)) (OnSlice a) old new
     (told_all (λ file. (p : ℕ) → OnSlice (part a i n) file p → OnSlice a file p) old.held
@@ -79,14 +79,14 @@ all_at P [] j x is all = absurd cc
 all_at P (y ∷ ys) zero x is all = let same : y ≡ x = cc in subst P same all.0
 all_at P (y ∷ ys) (suc j) x is all = all_at P ys j x is all.1
 
-holds_later : (old new : SourceView) (blocks : List Block) → new.held ≡ old.held → AreOfFile old blocks → AreOfFile new blocks
+pub holds_later : (old new : SourceView) (blocks : List Block) → new.held ≡ old.held → AreOfFile old blocks → AreOfFile new blocks
 holds_later old new blocks same holds = told_here (λ file. AllByRecursion (Holds file) blocks) old.held new.held same holds
 
-all_in : (first b : Blocks) → AreSame first b → AreBlocks first.section first.fixed (map field_of first.blocks) b.blocks → AllByRecursion (IsOf b.section b.fixed) b.blocks
+pub all_in : (first b : Blocks) → AreSame first b → AreBlocks first.section first.fixed (map field_of first.blocks) b.blocks → AllByRecursion (IsOf b.section b.fixed) b.blocks
 all_in first b same are = rw (same.section, same.with_fixed) are.all
 
 -- a field of strings is among them
-strings_among : (blocks : List Block) (k : ℕ) (b : Block) → k < length blocks → get_or blocks k b ≡ b → kind_of b.column.items ≡ strings → HasStrings (block_kinds blocks)
+pub strings_among : (blocks : List Block) (k : ℕ) (b : Block) → k < length blocks → get_or blocks k b ≡ b → kind_of b.column.items ≡ strings → HasStrings (block_kinds blocks)
 strings_among [] k b below is texts = absurd (omega arith)
 strings_among (c ∷ blocks) zero b below is texts = inl (ap (λ (x : Block). kind_of x.column.items) is ∙ texts)
 strings_among (c ∷ blocks) (suc k) b below is texts = inr (strings_among blocks k b (omega arith) is texts)

@@ -11,7 +11,7 @@ use Rattle.e57_blocks.specs.Runs.{held_values, IsRunOf}
 use Rattle.e57_blocks.specs.declared.block.Run.{Run}
 use Rattle.e57_chunk_out.specs.CloudCalls.{in_block, kind_of, most_of_block, waiting_of, with_items, HasStrings, IsBetween}
 use Rattle.e57_chunk_out.specs.Standing.{Cloud}
-use Rattle.e57_copy.specs.Adding.{block_kinds, held_columns, with_columns}
+use Rattle.e57_copy.specs.Adding.{block_kinds, held_columns, with_columns, HasRoom}
 use Rattle.e57_copy.specs.Items.{AreAlike, IsAlike}
 use Rattle.e57_copy.proofs.Alike.{alike_at, alike_many, run_alike, strings_in}
 use Rattle.e57_copy.proofs.Columns.{joined_to, joined_all, joined_at, joined_more, joined_none}
@@ -26,10 +26,18 @@ length-held b i n = length-map-range_with_len (held_item b) (i - b.first) n
 pub handed_none : (c : Cloud) (columns : List (List Value)) → c ≡ handed c 0 columns
 handed_none c columns = ap (λ (waiting : List (List Value)). record c { pending = waiting }) (sym (joined_none c.pending columns))
 
-left_at : (left j : ℕ) (columns : List (List Value)) → AllByRecursion (λ (column : List Value). length column ≡ left) columns → j < length columns → length (get_or columns j []) ≡ left
-left_at left j [] all below = absurd (omega arith)
-left_at left zero (x ∷ columns) all below = all.0
-left_at left (suc j) (x ∷ columns) all below = left_at left j columns all.1 (omega arith)
+room_at : (left n j : ℕ) (columns : List (List Value)) → AllByRecursion (λ (column : List Value). length column - left + n ≤ most_of_block) columns → j < length columns → length (get_or columns j []) - left + n ≤ most_of_block
+room_at left n j [] all below = absurd (omega arith)
+room_at left n zero (x ∷ columns) all below = all.0
+room_at left n (suc j) (x ∷ columns) all below = room_at left n j columns all.1 (omega arith)
+
+-- there is room in a block that isn't begun
+pub room_between : (c : Cloud) (n : ℕ) → IsBetween c → n ≤ most_of_block → HasRoom c n
+room_between c n between few = by_columns c.pending between
+  where
+    by_columns : (columns : List (List Value)) → AllByRecursion (λ (column : List Value). length column ≡ c.count % 8) columns → AllByRecursion (λ (column : List Value). length column - c.count % 8 + n ≤ most_of_block) columns
+    by_columns [] all = tt
+    by_columns (x ∷ columns) all = let same = all.0 in (omega (arith, same, few), by_columns columns all.1)
 
 columns_at : (kinds : List ItemKind) (n : ℕ) (columns : List (List Value)) (j : ℕ) → j < length kinds → AreColumns kinds n columns → AreItems (get_or kinds j strings) (get_or columns j [])
 columns_at [] n columns j below are = absurd (omega arith)
@@ -65,14 +73,15 @@ module _ (c : Cloud) (blocks : List Block) (i n j : ℕ) (b : Block) (alike : Ar
   pub handed_strings : kind_of (handed c j (held_columns blocks i n)) j ≡ strings → HasStrings c.kinds
   handed_strings texts = strings_in c.kinds j kinds_below texts
 
-  module _ (many : length c.pending ≡ length c.kinds) (between : IsBetween c) where
+  module _ (many : length c.pending ≡ length c.kinds) (room : HasRoom c n) where
     pending_below : j < length c.pending
     pending_below = let few = kinds_below in omega (arith, few, many)
 
-    pub handed_few : n ≤ most_of_block → (values : List Value) → values ≡ held_values b i n → in_block (handed c j (held_columns blocks i n)) j + length values ≤ most_of_block
-    handed_few few values are =
-        let waits : length (waiting_of (handed c j (held_columns blocks i n)) j) ≡ c.count % 8 =
-        ap (λ (column : List Value). length column) (joined_at j c.pending (held_columns blocks i n)) ∙ left_at (c.count % 8) j c.pending between pending_below in
+    pub handed_few : (values : List Value) → values ≡ held_values b i n → in_block (handed c j (held_columns blocks i n)) j + length values ≤ most_of_block
+    handed_few values are =
+        let waits : length (waiting_of (handed c j (held_columns blocks i n)) j) ≡ length (get_or c.pending j []) =
+        ap (λ (column : List Value). length column) (joined_at j c.pending (held_columns blocks i n)) in
+        let few = room_at (c.count % 8) n j c.pending room pending_below in
         let size : length values ≡ n = ap (λ (column : List Value). length column) are ∙ length-held b i n in
         omega (arith, waits, size, few)
 

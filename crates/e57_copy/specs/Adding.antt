@@ -1,5 +1,6 @@
 -- Records that are put behind those of a cloud that is written.
-use Rattle.std.specs.Prelude.{◌≡◌, ℕ, ◌+◌, ◌<◌, true, false, List, map, Option}
+use Rattle.std.specs.Prelude.{◌≡◌, ℕ, ◌+◌, ◌-◌, ◌%◌, ◌<◌, ◌≤◌, true, false, List, length, map, Option}
+use Rattle.std.specs.List.{AllByRecursion}
 use Rattle.e57_base.specs.Target.{TargetView}
 use Rattle.e57_base.specs.declared.fault.WriteFault.{WriteFault}
 use Rattle.e57_base.specs.declared.fault.WriteFault.TheVariants.{Target, Large, Memory}
@@ -10,7 +11,7 @@ use Rattle.e57_page_out.specs.Writing.{Writing, KeepsTarget, IsBeingWritten, mos
 use Rattle.e57_column.specs.Column.{kind_of}
 use Rattle.e57_blocks.specs.Block.{Block}
 use Rattle.e57_blocks.specs.Runs.{held_values}
-use Rattle.e57_chunk_out.specs.CloudCalls.{HasStrings, IsBetween}
+use Rattle.e57_chunk_out.specs.CloudCalls.{most_of_block, HasStrings, IsBetween}
 use Rattle.e57_chunk_out.specs.Going.{LosesRecords}
 use Rattle.e57_chunk_out.specs.Standing.{Cloud, Stands, in_groups}
 use Rattle.e57_chunk_out.specs.Turns.{data_end}
@@ -28,6 +29,10 @@ held_columns blocks i n = map (λ (b : Block). held_values b i n) blocks
 -- the cloud with these items as its begun block
 abbrev pub with_columns : Cloud → List (List Value) → Cloud
 with_columns c columns = record c { pending = join_columns c.pending columns }
+
+-- the begun block has room for n more records: each of its fields has
+abbrev pub HasRoom : Cloud → ℕ → Type 0
+HasRoom c n = AllByRecursion (λ (column : List Value). length column - c.count % 8 + n ≤ most_of_block) c.pending
 
 -- ---- more records
 

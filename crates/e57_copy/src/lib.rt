@@ -10,3 +10,4 @@ mod run;
 
 pub use item::copy_item;
 pub use records::copy_records;
+pub use run::copy_run;

@@ -7,7 +7,7 @@ ghost use Rattle.e57_layout.specs.Items.{AreColumns, AreItems};
 ghost use Rattle.e57_page_out.specs.Writing.{IsBeingWritten};
 ghost use Rattle.e57_blocks.specs.Runs.{run_values, HasRecords, IsRunInside, IsRunOf};
 ghost use Rattle.e57_chunk_out.specs.CloudCalls.{in_block, kind_of, most_of_block, with_items, HasStrings, IsBetween};
-ghost use Rattle.e57_copy.specs.Adding.{block_kinds, held_columns, with_columns, AddsRecords, IsStanding, LosesRun};
+ghost use Rattle.e57_copy.specs.Adding.{block_kinds, held_columns, with_columns, AddsRecords, HasRoom, IsStanding, LosesRun};
 ghost use Rattle.e57_copy.specs.Items.{AreAlike};
 
 use e57_base::{Target, WriteFault};
@@ -51,16 +51,24 @@ pub fn put_run<T: Target>(
     Ok(())
 }
 
-/// Hands the items of the `n` records from record `i` on, which all blocks hold, to such a cloud, as its block.
-fn copy_run(blocks: &[FieldBlock], i: u64, n: usize, cloud: &mut CloudOut) -> Result<(), AllocError>
+/// Hands the items of the `n` records from record `i` on, which all blocks hold, to a cloud of the same fields, but for
+/// limits, within which these integers are. They come behind the items that the cloud's block has, which isn't ended;
+/// with them it has at most 1,024 records.
+///
+/// Refuses want of memory, which comes of strings alone. The cloud is spent then.
+pub fn copy_run(
+    blocks: &[FieldBlock],
+    i: u64,
+    n: usize,
+    cloud: &mut CloudOut,
+) -> Result<(), AllocError>
     requires have { AllByRecursion (HasRecords i n) blocks.now }
-    requires few { n ≤ most_of_block }
-    requires fields { length blocks.now ≤ 512 }
+    requires fields { length blocks.now ≤ 520 }
     requires alike { AreAlike (block_kinds blocks.now) cloud.old.kinds }
     requires fit { AreColumns cloud.old.kinds n (held_columns blocks.now i n) }
     requires pending { length cloud.old.pending ≡ length cloud.old.kinds }
     requires unspent { cloud.old.is_spent ≡ false }
-    requires between { IsBetween cloud.old }
+    requires room { HasRoom cloud.old n }
     ensures { let columns = held_columns blocks.now i n in MatchResult result
         (λ _. cloud.new ≡ with_columns cloud.old columns)
         (λ _. (cloud.new.is_spent ≡ true) × HasStrings cloud.old.kinds) }

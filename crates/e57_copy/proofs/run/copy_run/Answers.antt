@@ -27,7 +27,7 @@ copy_items-requires-clause-items c =
 pub copy_items-requires-clause-few : goal.copy_items-requires-clause-few
 copy_items-requires-clause-few c =
     rw c.loop-j.invariant
-    (handed_few c.args.cloud.now c.args.blocks.now c.args.i c.args.n c.loop-j.j c.index-blocks-j.result c.requires.alike c.loop-j-test.true c.index-blocks-j.is c.requires.pending c.requires.between c.requires.few (run_values c.run.result) c.run.ensures.values)
+    (handed_few c.args.cloud.now c.args.blocks.now c.args.i c.args.n c.loop-j.j c.index-blocks-j.result c.requires.alike c.loop-j-test.true c.index-blocks-j.is c.requires.pending c.requires.room (run_values c.run.result) c.run.ensures.values)
 
 pub returns-in-Err : goal.returns-in-Err
 returns-in-Err c = (
@@ -40,7 +40,7 @@ pub loop-j-preserved : goal.loop-j-preserved
 loop-j-preserved c =
     c.in_default.ensures
     ∙ ap (λ (x : Cloud). with_items x c.loop-j.j (run_values c.run.result)) c.loop-j.invariant
-    ∙ handed_more c.args.cloud.now c.args.blocks.now c.args.i c.args.n c.loop-j.j c.index-blocks-j.result c.requires.alike c.loop-j-test.true c.index-blocks-j.is c.requires.pending c.requires.between (run_values c.run.result) c.run.ensures.values
+    ∙ handed_more c.args.cloud.now c.args.blocks.now c.args.i c.args.n c.loop-j.j c.index-blocks-j.result c.requires.alike c.loop-j-test.true c.index-blocks-j.is c.requires.pending c.requires.room (run_values c.run.result) c.run.ensures.values
 
 pub returns : goal.returns
 returns c =

@@ -4,10 +4,14 @@ use Rattle.e57_chunk_out.specs.Going.{LosesRecords}
 use Rattle.e57_chunk_out.specs.Standing.{Cloud}
 use Rattle.e57_copy.specs.Adding.{held_columns}
 use Rattle.e57_copy.proofs.Adding.{adds_block, even_with, length_with, loses_block, pending_many, some_kinds}
+use Rattle.e57_copy.proofs.Handing.{room_between}
 use Rattle.e57_copy.proofs.run.put_run.Goals as goal
 
 pub copy_run-requires-clause-pending : goal.copy_run-requires-clause-pending
 copy_run-requires-clause-pending g c = pending_many c.args.cloud.now c.args.out.now c.requires.standing
+
+pub copy_run-requires-clause-room : goal.copy_run-requires-clause-room
+copy_run-requires-clause-room g c = room_between c.args.cloud.now c.args.n c.requires.between c.requires.few
 
 pub end_block-requires-clause-some : goal.end_block-requires-clause-some
 end_block-requires-clause-some g c =
