@@ -253,6 +253,7 @@ module _ {T : Type 0} (view : T → TargetView) (first : Blocks) (from count : �
                 i = one.k;
                 after = omega (arith, low_one, low);
                 before = omega (arith, high_one, few);
+                named = ap (λ (f : Fault). f.a) one.is;
                 outside = told_map (λ file. AllByRecursion (Holds file) after.blocks) (λ file. IsOutside a c.kinds file one.k) old.held (outside_here fields found kinds outside)
                     (told_here (λ file. AllByRecursion (Holds file) after.blocks) mid.held old.held (sym met.asks.same.held) filled.holds);
               },

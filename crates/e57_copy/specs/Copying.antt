@@ -89,20 +89,21 @@ pub record IsOutside (a : Slice) (kinds : List ItemKind) (file : List ℕ) (i : 
   pub item : item_of file a.section a.fixed field.0 field.1 i ≡ Ok value
   pub outside : IsItem kind value → ⊥
 
--- Some of its records were put, and a later one of them has a value outside of the cloud's limits.
-pub record StopsOutside {T : Type 0} (view : T → TargetView) (a : Slice) (old : SourceView) (c : Cloud) (out : Writing T) (new : SourceView) (b : Blocks) (c' : Cloud) (out' : Writing T) : Type 0 where
+-- Some of its records were put, and a later one of them, which the fault names, has a value outside of the cloud's limits.
+pub record StopsOutside {T : Type 0} (view : T → TargetView) (a : Slice) (old : SourceView) (c : Cloud) (out : Writing T) (found : Fault) (new : SourceView) (b : Blocks) (c' : Cloud) (out' : Writing T) : Type 0 where
   pub n : ℕ
   pub copies : CopiesFirst view a n old c out new b c' out'
   pub i : ℕ
   pub after : a.from + n ≤ i
   pub before : i < a.from + a.count
+  pub named : found.a ≡ i
   pub outside : IfSome old.held (λ file. IsOutside a c.kinds file i)
 
 -- the next record has this fault, which is the first one of its fields; or a value is outside of the cloud's limits
 abbrev pub IsRefusal : {T : Type 0} → (T → TargetView) → Slice → SourceView → Cloud → Writing T → Fault → SourceView → Blocks → Cloud → Writing T → Type 0
 IsRefusal view a old c out found new b c' out' =
     ((is_column_kind found.kind ≡ true) × StopsAt view a old c out new b c' out' (λ i. IfSome old.held (λ file. record_fault file a.section a.fixed a.asked i ≡ Some found)))
-    ⊎ ((found.kind ≡ ValueRange) × StopsOutside view a old c out new b c' out')
+    ⊎ ((found.kind ≡ ValueRange) × StopsOutside view a old c out found new b c' out')
 
 -- Why not: a record has a fault, or a value that the cloud doesn't take; the source failed at a record; the target failed; the
 -- new file would be too large; or memory ran out, which is wanted for strings alone.
