@@ -141,8 +141,14 @@ const fn range(low: i64, high: i64) -> Option<Range> {
 const BEFORE: &str =
     "<e57Root type=\"Structure\"><a type=\"CompressedVector\" fileOffset=\"48\" recordCount=\"007\"><prototype type=\"Structure\"><p type=\"Structure\"><x type=\"Integer\" minimum=\"+0\" maximum=\"007\"/><y type=\"Float\"/></p><q type=\"Structure\"><r type=\"Structure\"><s type=\"String\"/></r><u type=\"Structure\"/></q><z type=\"ScaledInteger\" scale=\"2\"/></prototype></a><b type=\"CompressedVector\" fileOffset=\"0\" recordCount=\"1\"><prototype type=\"Structure\"><v type=\"Integer\" maximum=\"9\"/></prototype><codecs type=\"Blob\" fileOffset=\"7\" length=\"+5\"/></b></e57Root>";
 
-fn check(rt: &impl Abort, alloc: Global, edit: Edit<'_>, want: &str) -> Result<(), Fail> {
-    let found = shown(alloc, BEFORE, edit)?;
+fn check(
+    rt: &impl Abort,
+    alloc: Global,
+    before: &str,
+    edit: Edit<'_>,
+    want: &str,
+) -> Result<(), Fail> {
+    let found = shown(alloc, before, edit)?;
     let (_declaration, root) = found.as_slice().split_at(found.len().min(39));
     assert_eq!(rt; root, want.as_bytes());
     Ok(())
@@ -189,7 +195,46 @@ fn trees(rt: HostRuntime) -> Result<(), Fail> {
         ),
     ];
     for (edit, want) in rows {
-        check(&rt, rt.alloc(), edit, want)?;
+        check(&rt, rt.alloc(), BEFORE, edit, want)?;
+    }
+    Ok(())
+}
+
+/// An integer element with so many attributes without a meaning, between its type and these last ones.
+fn crowded(alloc: Global, others: usize, last: &str) -> Result<String, AllocError> {
+    let mut text = String::new(alloc);
+    text.push_str("<e57Root type=\"Structure\"><x type=\"Integer\"")?;
+    for i in 0..others {
+        let attr = format!(in alloc; " a{i}=\"\"")?;
+        text.push_str(attr.as_str())?;
+    }
+    text.push_str(last)?;
+    text.push_str("/></e57Root>")?;
+    Ok(text)
+}
+
+// Limits are set only if the element then has at most 64 attributes.
+#[test]
+fn elements_with_64_attributes(rt: HostRuntime) -> Result<(), Fail> {
+    let rows = [
+        (61, "", " minimum=\"-1\" maximum=\"3\""),
+        (62, "", ""),
+        (63, "", ""),
+        (61, " minimum=\"+0\"", " minimum=\"-1\" maximum=\"3\""),
+        (62, " minimum=\"+0\"", " minimum=\"+0\""),
+        (61, " maximum=\"007\"", " maximum=\"3\" minimum=\"-1\""),
+        (62, " maximum=\"007\"", " maximum=\"007\""),
+        (
+            61,
+            " maximum=\"007\" minimum=\"+0\"",
+            " maximum=\"3\" minimum=\"-1\"",
+        ),
+    ];
+    for (others, before, after) in rows {
+        let text = crowded(rt.alloc(), others, before)?;
+        let want = crowded(rt.alloc(), others, after)?;
+        let edit = Edit::Limits(&[NONE, range(-1, 3)]);
+        check(&rt, rt.alloc(), text.as_str(), edit, want.as_str())?;
     }
     Ok(())
 }
