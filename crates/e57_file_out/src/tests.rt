@@ -124,6 +124,20 @@ fn long_text(alloc: Global, written: usize) -> Result<Vec<u8>, AllocError> {
     Ok(text)
 }
 
+#[test]
+fn the_longest_text_is_put(rt: HostRuntime) -> Result<(), Fail> {
+    let alloc = rt.alloc();
+    let text = long_text(alloc, 1 << 26)?;
+    let mut written = b"<?xml version=\"1.0\" encoding=\"UTF-8\"?>\n".to_vec(alloc)?;
+    written.extend_from_slice(&text)?;
+    assert_eq!(rt; written.len(), 1 << 26);
+    let whole = plain(alloc, &[], &written)?;
+    let target = MemTarget::new(alloc, whole.len() / 1024, 7)?;
+    let (target, total) = close_behind(alloc, &text, &[], target);
+    assert!(rt; total == Some(Ok(whole.len() as u64)) && target.bytes() == whole.as_slice());
+    Ok(())
+}
+
 // Of it page 0 alone was put, which is blank.
 #[test]
 fn a_text_one_byte_too_long_is_large(rt: HostRuntime) -> Result<(), Fail> {
