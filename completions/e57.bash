@@ -9,7 +9,7 @@ _e57_files() {
 _e57_options() {
     case $1 in
         extract) echo --fields= --from= --count= --decimal= ;;
-        repack) echo --chunk= ;;
+        repack) echo --chunk= --tight= ;;
     esac
 }
 

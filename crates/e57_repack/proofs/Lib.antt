@@ -9,3 +9,8 @@ mod Trees
 mod Rewriting
 mod Limits
 mod Narrowing
+mod Joining
+mod Entries
+mod Gathering
+mod OfCloud
+mod Ranging

@@ -1,5 +1,6 @@
 pub mod Copying
 pub mod Anew
 pub mod Ending
+pub mod Widening
 pub mod Ranges
 pub mod Repacking

@@ -18,4 +18,4 @@ promise_of (ListOf file) = list_promise file
 promise_of (CheckOf file) = check_promise file
 promise_of (BlobOf file k) = blob_promise file k
 promise_of (ExtractOf file what) = extract_promise file what
-promise_of (RepackOf file made chunk) = repack_promise file made chunk
+promise_of (RepackOf file made chunk is_tight) = repack_promise file made chunk is_tight

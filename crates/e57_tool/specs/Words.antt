@@ -1,11 +1,11 @@
 -- What the words of a command line ask for.
-use Rattle.std.specs.Prelude.{ℕ, if◌then◌else◌, List, [], ◌∷◌, Result, Ok, Err, codes}
+use Rattle.std.specs.Prelude.{ℕ, Bool, if◌then◌else◌, List, [], ◌∷◌, Result, Ok, Err, codes}
 use Rattle.std.specs.Str.{bytes_eq}
 use Rattle.e57_show.specs.Extract.{Asked, IsLimited, asked_by}
 use Rattle.e57_chunk_out.specs.CloudCalls.{IsChunkLength}
 use Rattle.e57_tool.specs.Cursor.{Unread, next_place, next_other, next_number, at_end}
 use Rattle.e57_tool.specs.Options.{RowsGiven, nothing_given, with_options, rows_options, rows_asked}
-use Rattle.e57_tool.specs.RepackOptions.{RepackGiven, no_repack_given, repack_rows, chunk_given}
+use Rattle.e57_tool.specs.RepackOptions.{RepackGiven, no_repack_given, repack_rows, chunk_given, tight_given}
 use Rattle.e57_tool.specs.declared.words.Ask.{Ask}
 use Rattle.e57_tool.specs.declared.words.Ask.TheVariants as asked
 
@@ -28,7 +28,7 @@ pub data Command : Type 0 where
   -- `extract FILE CLOUD`, and options
   ExtractOf : (file : List ℕ) → (what : Asked) → Command
   -- `repack IN OUT`, and options
-  RepackOf : (file made : List ℕ) → (chunk : ℕ) → Command
+  RepackOf : (file made : List ℕ) → (chunk : ℕ) → (is_tight : Bool) → Command
 
 -- the one place behind a command, and no word behind it
 abbrev pub only_place : Unread → Result (List ℕ) ℕ
@@ -72,7 +72,7 @@ extract_ask unread = of_file (next_place unread) where
 abbrev pub repack_ask : Unread → Result Command ℕ
 repack_ask unread = of_file (next_place unread) where
   of_options : List ℕ → List ℕ → Result RepackGiven ℕ → Result Command ℕ
-  of_options file made (Ok given) = Ok (RepackOf file made (chunk_given given))
+  of_options file made (Ok given) = Ok (RepackOf file made (chunk_given given) (tight_given given))
   of_options file made (Err at) = Err at
 
   of_made : List ℕ → Result (List ℕ × Unread) ℕ → Result Command ℕ
@@ -114,10 +114,10 @@ command_of (asked.List file) = ListOf file.now
 command_of (asked.Check file) = CheckOf file.now
 command_of (asked.Blob file k) = BlobOf file.now k
 command_of (asked.Extract file given) = ExtractOf file.now (asked_by given)
-command_of (asked.Repack file made chunk) = RepackOf file.now made.now chunk
+command_of (asked.Repack file made chunk is_tight) = RepackOf file.now made.now chunk is_tight
 
 -- no number of records is above the most that may be asked for, and a chunk may have the asked number of them
 abbrev pub IsLimitedAsk : Ask → Type 0
 IsLimitedAsk (asked.Extract file given) = IsLimited given
-IsLimitedAsk (asked.Repack file made chunk) = IsChunkLength chunk
+IsLimitedAsk (asked.Repack file made chunk is_tight) = IsChunkLength chunk
 IsLimitedAsk _ = Unit {0}

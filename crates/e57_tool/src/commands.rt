@@ -37,8 +37,8 @@ pub fn perform<S: Source, T: Target, O: Sink>(
         Ask::Check(file) => check_file(alloc, file, source, target, out),
         Ask::Blob(file, k) => show_blob(alloc, file, k, source, target, out),
         Ask::Extract(file, ask) => show_rows(alloc, file, &ask, source, target, out),
-        Ask::Repack(file, made, chunk) => {
-            repack_file(alloc, file, made, chunk, source, target, out)
+        Ask::Repack(file, made, chunk, tight) => {
+            repack_file(alloc, file, made, chunk, tight, source, target, out)
         }
     }
 }

@@ -4,7 +4,7 @@ ghost use Rattle.std.specs.Prelude.{◌≡◌, IfOk, IfSome, MatchResult, None, 
 ghost use Rattle.e57_chunk_out.specs.CloudCalls.{IsChunkLength};
 ghost use Rattle.e57_tool.specs.Cursor.{unread};
 ghost use Rattle.e57_tool.specs.Options.{given_once, with_option, with_options};
-ghost use Rattle.e57_tool.specs.RepackOptions.{IsLawfulRepack, chunk_asked, chunk_given, no_repack_given, repack_given, repack_rows};
+ghost use Rattle.e57_tool.specs.RepackOptions.{IsLawfulRepack, chunk_asked, chunk_given, no_repack_given, repack_given, repack_rows, tight_asked, tight_given};
 
 use crate::cursor::{Cursor, WordFault, number_of};
 use crate::options::value_behind;
@@ -14,6 +14,8 @@ use crate::options::value_behind;
 pub struct RepackOptions {
     /// How many records a chunk has.
     pub chunk: Option<u32>,
+    /// Whether the limits of integer fields become as narrow as their values.
+    pub tight: Option<bool>,
 }
 
 /// How many records a chunk has, if no number is given.
@@ -28,7 +30,10 @@ impl RepackOptions {
         ensures given { repack_given result ≡ no_repack_given }
         ensures lawful { IsLawfulRepack result }
     {
-        RepackOptions { chunk: None }
+        RepackOptions {
+            chunk: None,
+            tight: None,
+        }
     }
 
     /// How many records a chunk has.
@@ -38,6 +43,13 @@ impl RepackOptions {
         ensures lawful { IsChunkLength result }
     {
         self.chunk.unwrap_or(DEFAULT_CHUNK)
+    }
+
+    /// Whether the limits of integer fields become narrow.
+    pub fn is_tight(&self) -> bool
+        ensures { result ≡ tight_given (repack_given self.now) }
+    {
+        self.tight.unwrap_or(false)
     }
 }
 
@@ -54,6 +66,13 @@ fn chunk_asked(value: &str) -> Option<u32>
     Some(n as u32)
 }
 
+// Whether narrow limits are asked for: `yes` is the one value.
+fn tight_asked(value: &str) -> Option<bool>
+    ensures { result ≡ tight_asked value.now }
+{
+    if value == "yes" { Some(true) } else { None }
+}
+
 // These options, and how many records a chunk has, if no number stands and this may.
 fn with_chunk(given: RepackOptions, value: &str) -> Option<RepackOptions>
     requires { IsLawfulRepack given }
@@ -61,7 +80,25 @@ fn with_chunk(given: RepackOptions, value: &str) -> Option<RepackOptions>
     ensures lawful { IfSome result IsLawfulRepack }
 {
     match (given.chunk, chunk_asked(value)) {
-        (None, Some(n)) => Some(RepackOptions { chunk: Some(n) }),
+        (None, Some(n)) => Some(RepackOptions {
+            chunk: Some(n),
+            tight: given.tight,
+        }),
+        _ => None,
+    }
+}
+
+// These options, and that limits become narrow, if that doesn't stand and the value is `yes`.
+fn with_tight(given: RepackOptions, value: &str) -> Option<RepackOptions>
+    requires { IsLawfulRepack given }
+    ensures given { option_map repack_given result ≡ given_once (repack_given given).tight (tight_asked value.now) (λ b. record (repack_given given) { tight = Some b }) }
+    ensures lawful { IfSome result IsLawfulRepack }
+{
+    match (given.tight, tight_asked(value)) {
+        (None, Some(tight)) => Some(RepackOptions {
+            chunk: given.chunk,
+            tight: Some(tight),
+        }),
         _ => None,
     }
 }
@@ -75,6 +112,9 @@ fn with_option(given: RepackOptions, word: &str) -> Option<RepackOptions>
 {
     if let Some(value) = value_behind("--chunk=", word) {
         return with_chunk(given, value);
+    }
+    if let Some(value) = value_behind("--tight=", word) {
+        return with_tight(given, value);
     }
     None
 }

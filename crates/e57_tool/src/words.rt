@@ -28,8 +28,8 @@ pub enum Ask<'a> {
     Blob(&'a str, u64),
     /// `extract FILE CLOUD`, and options
     Extract(&'a str, RowsAsk<'a>),
-    /// `repack IN OUT`, and how many records a chunk has
-    Repack(&'a str, &'a str, u32),
+    /// `repack IN OUT`, how many records a chunk has, and whether limits become narrow
+    Repack(&'a str, &'a str, u32, bool),
 }
 
 // The one place behind a command, a file's name, and no word behind it.
@@ -88,7 +88,7 @@ fn read_repack(mut words: Cursor<'_>) -> Result<Ask<'_>, WordFault>
     let file = words.place()?;
     let made = words.other_place(file)?;
     let options = read_repack_options(words)?;
-    Ok(Ask::Repack(file, made, options.chunk_length()))
+    Ok(Ask::Repack(file, made, options.chunk_length(), options.is_tight()))
 }
 
 // What a command with the words behind it asks for.

@@ -1,7 +1,9 @@
 //! Worked files, repacked.
 
+use crate::plain::{Thing, written};
+use crate::plain_streams::Kind;
 use e57_samples::cases::{CASES, Case};
-use e57_samples::files::{changed, three_records, two_points};
+use e57_samples::files::{WordOrder, changed, file, on_own_pages, three_records, two_points};
 use e57_samples::made::{BIT, Sample, made};
 use e57_samples::runs::{Written, run_on, run_writing};
 use e57_tool::Status;
@@ -120,6 +122,95 @@ fn a_file_with_a_fault_is_not_written(rt: HostRuntime) -> Result<(), Fail> {
     assert_eq!(rt; first_wrong(alloc, CASES)?, None);
     let damaged = changed(made(alloc, Sample::TwoPoints, &[])?, 1500);
     assert!(rt; repacked(alloc, damaged, &[])?.is(Status::Refused, b"refused Page 1 0\n", b""));
+    Ok(())
+}
+
+// Of three records the first field has values from 1 to 7, and limits from 0 to 7; in its stream they become 0, 5 and 6.
+#[test]
+fn limits_become_narrow(rt: HostRuntime) -> Result<(), Fail> {
+    let alloc = rt.alloc();
+    let left = repacked(alloc, three_records(alloc)?, &["--tight=yes"])?;
+    let file = left.target.bytes();
+    assert!(rt; left.ended.is(Status::Done, b"", b""));
+    assert!(rt; file.get(1070..1072) == Some(b"\xa8\x01".as_slice()));
+    let fields = b"cloud 0 /p records 3 fields 4
+field 0 x integer 1 7
+field 1 c integer 5 5
+field 2 f float32
+field 3 s string
+";
+    assert!(rt; shown(alloc, &["list", "scan"], file)?.as_slice() == fields.as_slice());
+    let rows = ["extract", "scan", "0"];
+    assert!(rt; shown(alloc, &rows, file)? == shown(alloc, &rows, &three_records(alloc)?)?);
+    assert!(rt; gives(alloc, file.to_vec(alloc)?, &["--tight=yes"], file)?);
+    Ok(())
+}
+
+// A section of two records, -1 and 4, of an integer of 64 bits, from page 1 on.
+const WIDE: &[u8] = b"\x01\0\0\0\0\0\0\0\x38\0\0\0\0\0\0\0\x20\x04\0\0\0\0\0\0\0\0\0\0\0\0\0\0\
+\x01\x01\x17\0\x01\0\x10\0\xff\xff\xff\xff\xff\xff\xff\x7f\x04\0\0\0\0\0\0\x80";
+
+const WIDE_TEXT: &str =
+    "<e57Root type='Structure'><p type='CompressedVector' fileOffset='1024' recordCount='2'><prototype type='Structure'><x type='Integer'/></prototype></p></e57Root>";
+
+const NARROW_TEXT: &str = "<?xml version=\"1.0\" encoding=\"UTF-8\"?>
+<e57Root type=\"Structure\"><p type=\"CompressedVector\" fileOffset=\"1024\" recordCount=\"2\"><prototype type=\"Structure\"><x type=\"Integer\" minimum=\"-1\" maximum=\"4\"/></prototype></p></e57Root>
+";
+
+#[test]
+fn limits_come_where_none_stand(rt: HostRuntime) -> Result<(), Fail> {
+    let alloc = rt.alloc();
+    let logical = on_own_pages(alloc, WIDE, WIDE_TEXT.as_bytes())?;
+    let wide = file(alloc, &logical, WordOrder::MostSignificantFirst)?;
+    let left = repacked(alloc, wide, &["--tight=yes"])?;
+    let narrow = left.target.bytes();
+    assert!(rt; left.ended.is(Status::Done, b"", b""));
+    assert!(rt; shown(alloc, &["info", "scan"], narrow)?.as_slice() == NARROW_TEXT.as_bytes());
+    assert!(rt;
+        shown(alloc, &["extract", "scan", "0"], narrow)?.as_slice() == b"x\n-1\n4\n".as_slice()
+    );
+    Ok(())
+}
+
+// Two clouds of the same fields get limits of their own, and one without records keeps its limits.
+#[test]
+fn each_cloud_has_limits_of_its_own(rt: HostRuntime) -> Result<(), Fail> {
+    let alloc = rt.alloc();
+    let some = [Kind::Bits(9), Kind::Texts(3), Kind::Bits(5)];
+    let things = [
+        Thing::Cloud(&some, 3),
+        Thing::Cloud(&some, 0),
+        Thing::Cloud(&some, 900),
+    ];
+    let wide = written(alloc, &things, 8)?;
+    let left = repacked(alloc, wide.to_vec(alloc)?, &["--tight=yes", "--chunk=16"])?;
+    let narrow = left.target.bytes();
+    assert!(rt; left.ended.is(Status::Done, b"", b""));
+    assert!(rt;
+        shown(alloc, &["check", "scan"], narrow)?.as_slice() == b"accepted 3 0 903\n".as_slice()
+    );
+    for cloud in ["0", "1", "2"] {
+        let rows = ["extract", "scan", cloud];
+        assert!(rt;
+            shown(alloc, &rows, narrow)? == shown(alloc, &rows, &wide)?,
+            "cloud {cloud}"
+        );
+    }
+    let fields = b"cloud 0 /t0 records 3 fields 3
+field 0 f0 integer 304 389
+field 1 f1 string
+field 2 f2 integer -1 24
+cloud 1 /t1 records 0 fields 3
+field 0 f0 integer -3 508
+field 1 f1 string
+field 2 f2 integer -3 28
+cloud 2 /t2 records 900 fields 3
+field 0 f0 integer -3 507
+field 1 f1 string
+field 2 f2 integer -3 28
+";
+    assert!(rt; shown(alloc, &["list", "scan"], narrow)?.as_slice() == fields.as_slice());
+    assert!(rt; narrow.len() <= wide.len());
     Ok(())
 }
 
