@@ -20,6 +20,9 @@ use std::alloc::{AllocError, Global};
 
 /// The least and the greatest item of each integer field of an open file: one entry for each node in preorder, which is none
 /// of a node that isn't an integer field, and of a field of no records.
+///
+/// Refuses a fault that is met in a cloud, `Source` if the source failed, and `Memory` if there is none. It is taken for the
+/// entries, and of one cloud at a time for a column and a block of each field, and for strings.
 #[tactic(auto, using(e57_check::proofs::AskingLaws::asks_where_none))]
 pub fn narrow_ranges<S: Source>(
     alloc: Global,
