@@ -5,3 +5,5 @@ pub mod Marks
 pub mod Handed
 pub mod Picked
 pub mod Keeping
+pub mod Chosen
+pub mod Found

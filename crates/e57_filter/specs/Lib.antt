@@ -1,2 +1,5 @@
 pub mod Keeping
 pub mod Marking
+pub mod Asking
+pub mod Asks
+pub mod Selecting

@@ -36,9 +36,10 @@ use Rattle.e57_nodes.specs.Places.{without_places}
 use Rattle.e57_rows.specs.Cells.{cell, csv_row}
 use Rattle.e57_rows.specs.Rows.{cells_of, heading_text, shown, rows_text, rows_fault, fault_before}
 use Rattle.e57_rows.specs.Shown.{show_of}
-use Rattle.e57_show.specs.Extract.{Asked, Selection, Selects, LacksAsked, IsRowsFault, stated, cloud_row, selected_row, numbers_of, asked_end, asked_count, lacking, select_from, select_range, select_records, select, rows_streamed}
+use Rattle.e57_show.specs.Extract.{Asked, Selection, Selects, LacksAsked, IsRowsFault, stated, cloud_row, selected_row, lacking, select_from, select_range, select_records, select, rows_streamed}
 use Rattle.e57_show.specs.Streaming.{IsWhole}
-use Rattle.e57_show.proofs.Selecting.{named-all, within-cloud}
+use Rattle.e57_select.specs.Asking.{numbers_of, asked_end, asked_count}
+use Rattle.e57_select.proofs.Looked.{named-all, within-cloud}
 use Rattle.e57_headline.specs.Headline.{records_among, cloud_records, record_item, record_row, IsAsked, ShowsRecords}
 
 -- ---- laws that are called

@@ -11,7 +11,7 @@ use Rattle.e57_cloud.specs.PathItem.{and_then, item_of, path_item}
 use Rattle.e57_column.proofs.CloudLaws.{item_of-cloud}
 use Rattle.e57_nodes.specs.Items.{leaves_of}
 use Rattle.e57_rows.specs.Cells.{csv_row}
-use Rattle.e57_rows.specs.Rows.{cells_of, shown, shown_row, rows_text, rows_fault, section_row}
+use Rattle.e57_rows.specs.Rows.{cells_of, shown, shown_row, rows_text, rows_fault}
 use Rattle.e57_rows.specs.Shown.{show_of}
 use Rattle.e57_rows.specs.Putting.{slice_text, slice_fault}
 use Rattle.e57_blocks.specs.Fields.{Slice, asked_of}

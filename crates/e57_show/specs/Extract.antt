@@ -1,6 +1,6 @@
 -- What `extract` puts: rows of the asked fields of some records of a cloud.
-use Rattle.std.specs.Prelude.{◌≡◌, ◌⊎◌, ℕ, ◌+◌, ◌-◌, ◌/◌, ◌^◌, ◌<◌, ◌≤◌, ◌==◌, ◌||◌, ◌&&◌, nat_le, nat_lt, if◌then◌else◌, min, Bool, true, false, List, [], ◌∷◌, ◌++◌, length, slice_get, Option, Some, None, option_map, IfSome, Result, Ok, Err}
-use Rattle.std.specs.List.{range_with_len, slice_split, AllByRecursion}
+use Rattle.std.specs.Prelude.{◌≡◌, ◌⊎◌, ℕ, ◌+◌, ◌/◌, ◌<◌, ◌≤◌, ◌==◌, ◌||◌, ◌&&◌, nat_le, nat_lt, if◌then◌else◌, min, Bool, true, false, List, [], ◌∷◌, ◌++◌, length, slice_get, Option, Some, None, option_map, IfSome, Result, Ok, Err}
+use Rattle.std.specs.List.{AllByRecursion}
 use Rattle.e57_base.specs.Source.{SourceView, page_length}
 use Rattle.e57_base.specs.declared.fault.Fault.{Fault}
 use Rattle.e57_base.specs.declared.fault.AskFault.{AskFault}
@@ -25,16 +25,13 @@ use Rattle.e57_tree.specs.Held.{clouds_of, cloud_fields}
 use Rattle.e57_rows.specs.Rows.{heading_text, row_of, shown, rows_text, rows_fault}
 use Rattle.e57_rows.specs.Shown.{has_decimals, show_of}
 use Rattle.e57_blocks.specs.Fields.{asked_of, field_at}
-use Rattle.e57_file.specs.Opened.{IsTreeFault, is_tree_kind, field_number}
+use Rattle.e57_file.specs.Opened.{IsTreeFault, is_tree_kind}
+use Rattle.e57_select.specs.Asking.{most_asked, names_in, numbers_of, asked_end, asked_count}
 use Rattle.e57_show.specs.declared.ask.RowsAsk.{RowsAsk}
 use Rattle.e57_show.specs.Streaming.{Streamed}
 use Rattle.e57_show.specs.Blob.{HasSoundTree}
 
 -- ---- the ask
-
--- the most records of an ask
-abbrev pub most_asked : ℕ
-most_asked = 2 ^ 40
 
 -- The number of a cloud; the paths of fields in the asked order, or all fields; the first record; how many, or all from there;
 -- whether scaled integers are asked for as the numbers that they stand for.
@@ -44,10 +41,6 @@ pub record Asked : Type 0 where
   pub from : ℕ
   pub count : Option ℕ
   pub decimal : Bool
-
--- the names of a list, which commas separate
-abbrev pub names_in : List ℕ → List (List ℕ)
-names_in text = slice_split (λ b. b == 44) text
 
 -- what is asked
 abbrev pub asked_by : RowsAsk → Asked
@@ -69,36 +62,6 @@ pub record Selection : Type 0 where
   pub from : ℕ
   pub count : ℕ
   pub decimal : Bool
-
--- a field's number before those of others
-abbrev pub with_number : ℕ → Result (List ℕ) ℕ → Result (List ℕ) ℕ
-with_number f (Ok others) = Ok (f ∷ others)
-with_number f (Err at) = Err at
-
--- the number of the field with name j before those of the fields with the names behind it; or j if no field has it
-abbrev pub by_number : ℕ → Option ℕ → Result (List ℕ) ℕ → Result (List ℕ) ℕ
-by_number j None others = Err j
-by_number j (Some f) others = with_number f others
-
--- The numbers of the fields with these names, of which the first one is name j of the list; or the number of the first name that
--- no field has.
-unfoldable pub numbers_from : List Field → ℕ → List (List ℕ) → Result (List ℕ) ℕ
-numbers_from fields j [] = Ok []
-numbers_from fields j (name ∷ names) = by_number j (field_number name fields) (numbers_from fields (j + 1) names)
-
--- the numbers of the asked fields, or the number of the first name that no field has
-abbrev pub numbers_of : List Field → Option (List (List ℕ)) → Result (List ℕ) ℕ
-numbers_of fields None = Ok (range_with_len 0 (length fields))
-numbers_of fields (Some names) = numbers_from fields 0 names
-
--- the number of the record past the last one that is asked for by a number; else of the first one
-abbrev pub asked_end : ℕ → Option ℕ → ℕ
-asked_end from None = from
-asked_end from (Some n) = from + n
-
-abbrev pub asked_count : ℕ → ℕ → Option ℕ → ℕ
-asked_count records from None = records - from
-asked_count records from (Some n) = n
 
 -- the place in the list, of which this is the part from place j on, of the first field whose items have no decimals
 unfoldable pub lacking_from : List Field → ℕ → List ℕ → Option ℕ

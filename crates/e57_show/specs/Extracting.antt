@@ -4,7 +4,6 @@ use Rattle.std.specs.List.{AllByRecursion}
 use Rattle.e57_base.specs.Count.{Rose}
 use Rattle.e57_base.specs.Source.{SourceView}
 use Rattle.e57_base.specs.Sink.{SinkView, Grows, GrowsByFront}
-use Rattle.e57_base.specs.declared.fault.AskFault.TheVariants as ask
 use Rattle.e57_base.specs.declared.fault.RunFault.{RunFault}
 use Rattle.e57_base.specs.declared.fault.RunFault.TheVariants.{Refused, Source, Out, Memory, Ask}
 use Rattle.e57_layout.specs.declared.field.Field.{Field}
@@ -16,7 +15,7 @@ use Rattle.e57_stream.specs.Asking.{AsksMet}
 use Rattle.e57_tree.specs.Held.{clouds_of, cloud_fields}
 use Rattle.e57_show.specs.declared.select.Selected.{Selected}
 use Rattle.e57_show.specs.Streaming.{Streamed}
-use Rattle.e57_show.specs.Extract.{Asked, Selection, select, numbers_from, is_rows_ask, is_rows_kind, selected_rows, selected_text, selected_fault, IsMetBy}
+use Rattle.e57_show.specs.Extract.{Asked, Selection, select, is_rows_ask, is_rows_kind, selected_rows, selected_text, selected_fault, IsMetBy}
 
 -- ---- the ask
 
@@ -51,24 +50,6 @@ IsUnselected nodes asked Source = ⊥
 IsUnselected nodes asked Out = ⊥
 IsUnselected nodes asked Memory = Unit {0}
 IsUnselected nodes asked (Ask why) = (is_rows_ask asked why ≡ true) × ((e : Element) → nodes ≡ preorder e → select asked e ≡ Err why)
-
--- the tree with these nodes has a cloud k with these fields
-pub record HasFields (nodes : List RawNode) (k : ℕ) (fields : List Field) : Type 0 where
-  pub are_nodes : AreNodes nodes
-  pub there : (e : Element) → nodes ≡ preorder e → k < length (clouds_of e)
-  pub has : (e : Element) → nodes ≡ preorder e → slice_get (cloud_fields e) k ≡ Some fields
-
--- why not all fields with these names were found: one that isn't there, by its number in the list, or memory ran out
-abbrev pub LacksName : List Field → List (List ℕ) → RunFault → Type 0
-LacksName fields names (Refused found) = ⊥
-LacksName fields names Source = ⊥
-LacksName fields names Out = ⊥
-LacksName fields names Memory = Unit {0}
-LacksName fields names (Ask why) = (j : ℕ) × (j < length names) × (why ≡ ask.Field j (length fields)) × (numbers_from fields 0 names ≡ Err j)
-
-abbrev pub LacksField : Option (List (List ℕ)) → List Field → RunFault → Type 0
-LacksField None fields fault = fault ≡ Memory
-LacksField (Some names) fields fault = LacksName fields names fault
 
 -- ---- the rows
 

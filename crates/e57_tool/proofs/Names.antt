@@ -8,7 +8,7 @@ use Rattle.std.proofs.lemmas.Bool.Decides.{nat_tests}
 use Rattle.std.proofs.lemmas.Grind.{common_steps}
 use Rattle.std.proofs.lemmas.List.Splits.{slice_split_first}
 use Rattle.std.proofs.lemmas.Str.Pattern.{IsSplitOnceResult, split_once_first, split_parts, starts_text}
-use Rattle.e57_show.specs.Extract.{names_in}
+use Rattle.e57_select.specs.Asking.{names_in}
 use Rattle.e57_tool.specs.Options.{are_distinct, is_new, value_behind}
 
 -- no comma stands in the text

@@ -3,7 +3,8 @@ use Rattle.std.specs.Prelude.{ℕ, ◌+◌, Bool, true, false, ◌&&◌, not, na
 use Rattle.std.specs.List.{list_any, starts_with}
 use Rattle.std.specs.Option.{option_map_or, option_and_then, unwrap_or}
 use Rattle.std.specs.Str.{bytes_eq}
-use Rattle.e57_show.specs.Extract.{Asked, names_in, most_asked}
+use Rattle.e57_select.specs.Asking.{names_in, most_asked}
+use Rattle.e57_show.specs.Extract.{Asked}
 use Rattle.e57_tool.specs.Cursor.{Unread, number_of}
 use Rattle.e57_tool.specs.declared.options.RowsOptions.{RowsOptions}
 

@@ -3,7 +3,8 @@
 ghost use Rattle.std.specs.Prelude.{◌≡◌, ◌+◌, ◌<◌, ◌≤◌, length, map, option_map, MatchOption, MatchResult, Ok, Err, None, Some, IfSome, IfOk};
 ghost use Rattle.std.specs.List.{list_any};
 ghost use Rattle.std.specs.Str.{bytes_eq};
-ghost use Rattle.e57_show.specs.Extract.{IsLimited, asked_by, names_in, most_asked};
+ghost use Rattle.e57_select.specs.Asking.{names_in, most_asked};
+ghost use Rattle.e57_show.specs.Extract.{IsLimited, asked_by};
 ghost use Rattle.e57_tool.specs.Cursor.{unread};
 ghost use Rattle.e57_tool.specs.Options.{AreLimited, are_distinct, decimal_asked, given_by, is_new, names_asked, nothing_given, number_asked, rows_asked, rows_options, value_behind, with_option, with_options, given_once};
 

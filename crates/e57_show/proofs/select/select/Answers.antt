@@ -3,7 +3,8 @@ use Rattle.std.specs.List.{AllByRecursion}
 use Rattle.e57_base.specs.declared.fault.RunFault.{RunFault}
 use Rattle.e57_show.specs.Extract.{asked_by, lacking}
 use Rattle.e57_show.specs.Extracting.{IsSelected, IsUnselected}
-use Rattle.e57_show.proofs.Selecting.{counted, cloud-lacking, is-there, field-lacking, numbers-below, decimal-lacking, range-lacking, is-selected}
+use Rattle.e57_select.proofs.Looked.{counted, is-there, numbers-below}
+use Rattle.e57_show.proofs.Selecting.{cloud-lacking, field-lacking, decimal-lacking, range-lacking, is-selected}
 use Rattle.e57_show.proofs.select.select.Goals as goal
 use Rattle.e57_base.proofs.Options.{by_error}
 

@@ -1,7 +1,7 @@
 use Rattle.std.proofs.Common.{◌≡◌, length}
 use denote.Text.{Utf8}
 use denote.Shadow.{shadow}
-use Rattle.e57_show.specs.Extract.{names_in}
+use Rattle.e57_select.specs.Asking.{names_in}
 use Rattle.e57_tool.specs.Options.{are_distinct}
 use Rattle.e57_tool.proofs.options.are_distinct.Given as goal
 

@@ -1,10 +1,10 @@
 use Rattle.std.proofs.Common.{◌≡◌, ◌∙◌, ◌+◌, ◌<◌, refl, sym, subst, map, drop, arith, List, ℕ}
 use Rattle.std.proofs.lemmas.List.{length-map}
-use Rattle.e57_show.specs.Extract.{numbers_from}
-use Rattle.e57_show.specs.Extracting.{LacksName}
+use Rattle.e57_select.specs.Asking.{numbers_from}
+use Rattle.e57_select.specs.Looking.{LacksName}
 use Rattle.e57_base.specs.declared.fault.RunFault.{RunFault}
-use Rattle.e57_show.proofs.Selecting.{behind_all, next-name, absent-name, last-name}
-use Rattle.e57_show.proofs.select.named_numbers.Goals as goal
+use Rattle.e57_select.proofs.Looked.{behind_all, next-name, absent-name, last-name}
+use Rattle.e57_select.proofs.asked.named_numbers.Goals as goal
 
 pub returns-in-None : goal.returns-in-None
 returns-in-None c =

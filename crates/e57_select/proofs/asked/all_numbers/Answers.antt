@@ -1,6 +1,6 @@
 use Rattle.std.proofs.Common.{◌∙◌}
-use Rattle.e57_show.proofs.Selecting.{next-number}
-use Rattle.e57_show.proofs.select.all_numbers.Goals as goal
+use Rattle.e57_select.proofs.Looked.{next-number}
+use Rattle.e57_select.proofs.asked.all_numbers.Goals as goal
 
 pub loop-f-preserved : goal.loop-f-preserved
 loop-f-preserved c = c.in_ok-push.ensures.items ∙ next-number c.loop-f.f c.loop-f.numbers.items c.loop-f.invariant

@@ -1,6 +1,6 @@
 use Rattle.std.proofs.Common.{◌∙◌, ap, map}
-use Rattle.e57_show.proofs.Selecting.{listed-numbers}
-use Rattle.e57_show.proofs.select.field_numbers.Goals as goal
+use Rattle.e57_select.proofs.Looked.{listed-numbers}
+use Rattle.e57_select.proofs.asked.field_numbers.Goals as goal
 
 pub returns-in_ok-names-in-Some : goal.returns-in_ok-names-in-Some
 returns-in_ok-names-in-Some c =
