@@ -125,6 +125,13 @@ fn a_file_with_a_fault_is_not_written(rt: HostRuntime) -> Result<(), Fail> {
     Ok(())
 }
 
+const NARROW_FIELDS: &str = "cloud 0 /p records 3 fields 4
+field 0 x integer 1 7
+field 1 c integer 5 5
+field 2 f float32
+field 3 s string
+";
+
 // Of three records the first field has values from 1 to 7, and limits from 0 to 7; in its stream they become 0, 5 and 6.
 #[test]
 fn limits_become_narrow(rt: HostRuntime) -> Result<(), Fail> {
@@ -133,13 +140,7 @@ fn limits_become_narrow(rt: HostRuntime) -> Result<(), Fail> {
     let file = left.target.bytes();
     assert!(rt; left.ended.is(Status::Done, b"", b""));
     assert!(rt; file.get(1070..1072) == Some(b"\xa8\x01".as_slice()));
-    let fields = b"cloud 0 /p records 3 fields 4
-field 0 x integer 1 7
-field 1 c integer 5 5
-field 2 f float32
-field 3 s string
-";
-    assert!(rt; shown(alloc, &["list", "scan"], file)?.as_slice() == fields.as_slice());
+    assert!(rt; shown(alloc, &["list", "scan"], file)?.as_slice() == NARROW_FIELDS.as_bytes());
     let rows = ["extract", "scan", "0"];
     assert!(rt; shown(alloc, &rows, file)? == shown(alloc, &rows, &three_records(alloc)?)?);
     assert!(rt; gives(alloc, file.to_vec(alloc)?, &["--tight=yes"], file)?);
@@ -172,6 +173,20 @@ fn limits_come_where_none_stand(rt: HostRuntime) -> Result<(), Fail> {
     Ok(())
 }
 
+const FIELDS_OF_EACH: &str = "cloud 0 /t0 records 3 fields 3
+field 0 f0 integer 304 389
+field 1 f1 string
+field 2 f2 integer -1 24
+cloud 1 /t1 records 0 fields 3
+field 0 f0 integer -3 508
+field 1 f1 string
+field 2 f2 integer -3 28
+cloud 2 /t2 records 900 fields 3
+field 0 f0 integer -3 507
+field 1 f1 string
+field 2 f2 integer -3 28
+";
+
 // Two clouds of the same fields get limits of their own, and one without records keeps its limits.
 #[test]
 fn each_cloud_has_limits_of_its_own(rt: HostRuntime) -> Result<(), Fail> {
@@ -196,20 +211,7 @@ fn each_cloud_has_limits_of_its_own(rt: HostRuntime) -> Result<(), Fail> {
             "cloud {cloud}"
         );
     }
-    let fields = b"cloud 0 /t0 records 3 fields 3
-field 0 f0 integer 304 389
-field 1 f1 string
-field 2 f2 integer -1 24
-cloud 1 /t1 records 0 fields 3
-field 0 f0 integer -3 508
-field 1 f1 string
-field 2 f2 integer -3 28
-cloud 2 /t2 records 900 fields 3
-field 0 f0 integer -3 507
-field 1 f1 string
-field 2 f2 integer -3 28
-";
-    assert!(rt; shown(alloc, &["list", "scan"], narrow)?.as_slice() == fields.as_slice());
+    assert!(rt; shown(alloc, &["list", "scan"], narrow)?.as_slice() == FIELDS_OF_EACH.as_bytes());
     assert!(rt; narrow.len() <= wide.len());
     Ok(())
 }
