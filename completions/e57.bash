@@ -10,6 +10,7 @@ _e57_options() {
     case $1 in
         extract) echo --fields= --from= --count= --decimal= ;;
         repack) echo --chunk= --tight= ;;
+        filter) echo --fields= --keep= --every= --from= --count= ;;
     esac
 }
 
@@ -18,6 +19,7 @@ _e57_places() {
     case $1 in
         pages | info | list | check) echo 1 ;;
         blob | extract | repack) echo 2 ;;
+        filter) echo 3 ;;
         *) echo 0 ;;
     esac
 }
@@ -26,7 +28,7 @@ _e57() {
     local word=${COMP_WORDS[COMP_CWORD]} command=${COMP_WORDS[1]} places option
     COMPREPLY=()
     if [ "$COMP_CWORD" -eq 1 ]; then
-        mapfile -t COMPREPLY < <(compgen -W 'pages info list check blob extract repack --help --version' -- "$word")
+        mapfile -t COMPREPLY < <(compgen -W 'pages info list check blob extract repack filter --help --version' -- "$word")
         return
     fi
     places=$(_e57_places "$command")
@@ -34,9 +36,13 @@ _e57() {
         _e57_files "$word"
         return
     fi
-    if [ "$COMP_CWORD" -eq 3 ] && [ "$command" = repack ]; then
-        _e57_files "$word"
-        return
+    if [ "$COMP_CWORD" -eq 3 ]; then
+        case $command in
+            repack | filter)
+                _e57_files "$word"
+                return
+                ;;
+        esac
     fi
     # Not a value: bash takes a word with `=` apart.
     if [ "$COMP_CWORD" -le $((1 + places)) ] || [ "$word" = = ] || [ "${COMP_WORDS[COMP_CWORD - 1]}" = = ]; then
@@ -44,9 +50,9 @@ _e57() {
     fi
     for option in $(_e57_options "$command"); do
         case " ${COMP_WORDS[*]:2:COMP_CWORD - 2} " in
-            *" ${option%=} "*) ;;
-            *) case $option in "$word"*) COMPREPLY+=("$option") ;; esac ;;
+            *" ${option%=} "*) [ "$option" = --keep= ] || continue ;;
         esac
+        case $option in "$word"*) COMPREPLY+=("$option") ;; esac
     done
     compopt -o nospace 2>/dev/null
 }

@@ -14,3 +14,11 @@ pub mod Clouds
 pub mod Trees
 pub mod Blobs
 pub mod Paging
+pub mod Lists
+pub mod Walking
+pub mod OneTree
+pub mod Valid
+pub mod Several
+pub mod Closing
+pub mod Beginning
+pub mod Rewriting

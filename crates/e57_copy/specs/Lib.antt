@@ -5,3 +5,5 @@ pub mod Copying
 pub mod Items
 pub mod Sections
 pub mod Rewriting
+pub mod Several
+pub mod Ending

@@ -7,3 +7,17 @@ pub mod Picked
 pub mod Keeping
 pub mod Chosen
 pub mod Found
+pub mod Ending
+pub mod Opening
+pub mod Ranges
+pub mod OfCloud
+pub mod KeptItems
+pub mod KeptSections
+pub mod PlacedCloud
+pub mod KeptLists
+pub mod FilteredItems
+pub mod Walked
+pub mod Ended
+pub mod KeptContent
+pub mod FilteredFile
+pub mod Asked

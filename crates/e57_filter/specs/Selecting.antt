@@ -11,9 +11,10 @@ use Rattle.e57_nodes.specs.Shape.{shape_of}
 use Rattle.e57_nodes.specs.Typed.{max_fields}
 use Rattle.e57_nodes.specs.Items.{stated_items}
 use Rattle.e57_tree.specs.Held.{clouds_of, cloud_in, fields_in}
+use Rattle.e57_column.specs.Reading.{AreWhole}
 use Rattle.e57_blocks.specs.Fields.{field_at}
 use Rattle.e57_plain.specs.Pruned.{keeps_some}
-use Rattle.e57_plain.specs.Kept.{Selection, Test}
+use Rattle.e57_plain.specs.Kept.{Selection, Test, chosen}
 use Rattle.e57_filter.specs.Asking.{KeepAsked, FilterAsked, is_integer, with_test, tests_from, select_kept}
 use Rattle.e57_filter.specs.declared.select.FieldTest.{FieldTest}
 use Rattle.e57_filter.specs.declared.select.Selected.{Selected}
@@ -23,6 +24,24 @@ use Rattle.e57_filter.specs.declared.select.Selected.{Selected}
 -- the test as what is selected has it
 abbrev pub field_test : FieldTest → Test
 field_test test = record { field = test.field; low = test.low; high = test.high }
+
+-- the numbers of the tested fields
+abbrev pub test_fields : List FieldTest → List ℕ
+test_fields tests = map (λ (test : FieldTest). test.field) tests
+
+-- the field of a test is one of these, and of integers
+pub record IsFieldTest (fields : List Field) (test : FieldTest) : Type 0 where
+  pub there : test.field < length fields
+  pub integers : AreWhole (item_kind (field_at fields test.field).kind)
+
+-- Some fields of these, in their order, and some records of the cloud.
+pub record AreOfCloud (fields : List Field) (s : Selected) : Type 0 where
+  pub flags : length s.chosen.items ≡ length fields
+  pub numbers : s.numbers.items ≡ chosen s.chosen.items (range_with_len 0 (length fields))
+  pub some : 0 < length s.numbers.items
+  pub few_tests : length s.tests.items ≤ 8
+  pub tests : AllByRecursion (IsFieldTest fields) s.tests.items
+  pub within : s.from + s.count ≤ s.cloud.count
 
 -- it is of a field of integers
 abbrev pub IsIntegerField : List Field → FieldTest → Type 0

@@ -1,6 +1,6 @@
 //! Records that pass, kept run after run.
 
-ghost use Rattle.std.specs.Prelude.{◌≡◌, ◌+◌, ◌^◌, ◌*◌, ◌/◌, ◌<◌, ◌≤◌, false, length, map, take, MatchResult};
+ghost use Rattle.std.specs.Prelude.{◌≡◌, ◌+◌, ◌^◌, ◌*◌, ◌/◌, ◌<◌, ◌≤◌, false, length, map, take, MatchResult, OnOk};
 ghost use Rattle.std.specs.List.{AllByRecursion};
 ghost use Rattle.e57_base.specs.Source.{page_length};
 ghost use Rattle.e57_page.specs.Place.{payload_length};
@@ -76,6 +76,7 @@ pub fn keep_records<S: Source, T: Target>(
         MatchResult result
         (λ _. KeepsAll T.view s kept a old cloud.old out.old new blocks.new cloud.new out.new)
         (λ fault. KeepsNot T.view s kept a old cloud.old out.old fault new blocks.new cloud.new out.new) }
+    ensures idle { OnOk result (cloud.new.count ≡ cloud.old.count → out.new.size ≡ out.old.size) }
 {
     let _size = pages.logical_len();
     let until = from + count;
@@ -149,6 +150,7 @@ fn keep_run<T: Target>(
         MatchResult result
         (λ _. AddsRecords T.view (passing_count pass 0 n) more cloud.old out.old cloud.new out.new)
         (λ fault. LosesRun T.view (passing_count pass 0 n) more cloud.old out.old fault cloud.new out.new) }
+    ensures idle { OnOk result (cloud.new.count ≡ cloud.old.count → out.new.size ≡ out.old.size) }
 {
     let mut flags = [false; MOST];
     keep_marked(
@@ -198,6 +200,7 @@ fn keep_marked<T: Target>(
         MatchResult result
         (λ _. AddsRecords T.view (passing_count pass 0 n) more cloud.old out.old cloud.new out.new)
         (λ fault. LosesRun T.view (passing_count pass 0 n) more cloud.old out.old fault cloud.new out.new) }
+    ensures idle { OnOk result (cloud.new.count ≡ cloud.old.count → out.new.size ≡ out.old.size) }
 {
     are_of_fields(blocks, i, n);
     mark_run(blocks, i, n, past, every, tests, flags);

@@ -1,6 +1,6 @@
 //! Records that are marked, from blocks that hold them into a cloud that is written.
 
-ghost use Rattle.std.specs.Prelude.{◌≡◌, ℕ, ◌+◌, ◌^◌, ◌<◌, ◌≤◌, Bool, false, true, length, get_or, MatchResult};
+ghost use Rattle.std.specs.Prelude.{◌≡◌, ℕ, ◌+◌, ◌^◌, ◌<◌, ◌≤◌, Bool, false, true, length, get_or, MatchResult, OnOk};
 ghost use Rattle.std.specs.List.{AllByRecursion};
 ghost use Rattle.e57_layout.specs.Items.{AreColumns};
 ghost use Rattle.e57_page_out.specs.Writing.{IsBeingWritten};
@@ -40,9 +40,10 @@ pub fn pick_run<T: Target>(
     requires standing { IsStanding cloud.old out.old }
     requires state { IsBeingWritten T.view out.old }
     requires limit { cloud.old.count + n ≤ cloud.old.at_most }
-    ensures { let columns = picked flags.now (held_columns blocks.now i n) in MatchResult result
+    ensures picks { let columns = picked flags.now (held_columns blocks.now i n) in MatchResult result
         (λ _. AddsRecords T.view (mark_count flags.now) columns cloud.old out.old cloud.new out.new)
         (λ fault. LosesRun T.view (mark_count flags.now) columns cloud.old out.old fault cloud.new out.new) }
+    ensures idle { OnOk result (cloud.new.count ≡ cloud.old.count → out.new.size ≡ out.old.size) }
 {
     let handed = match hand_marked(blocks, i, n, flags, cloud) {
         Ok(handed) => handed,

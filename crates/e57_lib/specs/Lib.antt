@@ -17,3 +17,4 @@ pub mod CloudOut
 pub mod Copy
 pub mod Plain
 pub mod Repack
+pub mod Filter

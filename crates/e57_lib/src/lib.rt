@@ -47,13 +47,14 @@ pub mod verdict {
     pub use e57_check::{Summary, check, judge};
 }
 
-/// A new file: a file written anew; its pages, the section of a cloud block by block, records, clouds and blobs that are
-/// copied, its end; and trees with other limits, fields, records and counts.
+/// A new file: a file written anew, whole or with a part of a cloud; its pages, the section of a cloud block by block,
+/// records, clouds and blobs that are copied, its end; and trees with other limits, fields, records and counts.
 pub mod writing {
     pub use e57_chunk_out::{CloudOut, Written, items_stand, new_cloud_stands};
     pub use e57_copy::{copy_item, copy_records};
     pub use e57_edits::{Range, with_cloud, with_counts, with_limits};
     pub use e57_file_out::{close_file, copy_blob};
+    pub use e57_filter::{FilterAsk, Keep, filter};
     pub use e57_page_out::PagesOut;
     pub use e57_repack::repack;
 }

@@ -1,5 +1,5 @@
 pub mod Laws
 mod Cases
-mod Lawful
+pub mod Lawful
 mod Columns
 mod TwoChunks

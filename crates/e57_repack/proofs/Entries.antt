@@ -15,7 +15,7 @@ use Rattle.std.proofs.lemmas.List.{take_more, length-take, length-map}
 use Rattle.e57_blocks.specs.Block.{Block}
 use Rattle.e57_blocks.specs.Runs.{run_values, held_values}
 use Rattle.e57_copy.specs.Adding.{held_columns}
-use Rattle.e57_repack.proofs.Lists.{map_append}
+use Rattle.e57_copy.proofs.Lists.{map_append}
 use Rattle.e57_repack.specs.Ranges.{AreLimits}
 use Rattle.e57_repack.specs.Widening.{joined, AreWidened}
 use Rattle.e57_repack.proofs.Joining.{joined-none, joined-assoc, joined-comm, range_of-append, words-none, strings-none}

@@ -8,7 +8,7 @@ use Rattle.e57_plain.specs.Tight.{widened, range_of}
 use Rattle.std.proofs.lemmas.List.{take_more}
 use Rattle.e57_blocks.specs.Runs.{strings_from}
 use Rattle.e57_repack.specs.Widening.{joined}
-use Rattle.e57_repack.proofs.Lists.{map_append}
+use Rattle.e57_copy.proofs.Lists.{map_append}
 
 min-assoc : (a b c : ℤ) → int_min a (int_min b c) ≡ int_min (int_min a b) c
 min-assoc a b c = omega (arith, ints, clamps)

@@ -1,11 +1,7 @@
-mod Lists
-mod Walking
+mod Alike
 mod Several
 mod Stepping
-mod Valid
 mod Closing
-mod Beginning
-mod Trees
 mod Rewriting
 mod Limits
 mod Narrowing

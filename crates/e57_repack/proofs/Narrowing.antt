@@ -21,12 +21,13 @@ use Rattle.e57_copy.specs.Rewriting.{Rewriting, RewritesNot}
 use Rattle.e57_edits.specs.declared.limits.Range.{Range}
 use Rattle.e57_edits.specs.Ranges.{limits_of, range_at, AreOrdered, AreSigned, IsOrdered, IsSigned}
 use Rattle.e57_plain.proofs.Laws.Limits.{IsRange, AreRanges}
-use Rattle.e57_repack.specs.Anew.{content_with}
-use Rattle.e57_repack.specs.Copying.{AreAlikeItems, AreSound, bodies_in}
-use Rattle.e57_repack.specs.Ranges.{content_in, AreLimits, FindsRanges, FindsNoRanges}
+use Rattle.e57_copy.specs.Several.{bodies_in, content_in, content_with, AreSound}
+use Rattle.e57_copy.proofs.OneTree.{one-tree}
+use Rattle.e57_copy.proofs.Rewriting.{sound-things, sound-tree}
+use Rattle.e57_repack.specs.Copying.{AreAlikeItems}
+use Rattle.e57_repack.specs.Ranges.{AreLimits, FindsRanges, FindsNoRanges}
 use Rattle.e57_repack.proofs.Limits.{alike-tree, limits-same, without-limits}
-use Rattle.e57_repack.proofs.Rewriting.{IsChange, sound-things, sound-tree}
-use Rattle.e57_repack.proofs.Trees.{one-tree}
+use Rattle.e57_repack.proofs.Rewriting.{IsChange}
 
 -- the tree with these limits, without its places, is that of the narrow content
 pub narrow-content : (file : List ℕ) (e : Element) (ranges : List (Option Range)) → ((n : ℕ) → range_at ranges n ≡ range_in (content_in file e) n)

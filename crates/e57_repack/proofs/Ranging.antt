@@ -32,14 +32,14 @@ use Rattle.e57_copy.specs.Items.{stated_in, IsSoundThing}
 use Rattle.e57_plain.specs.Tight.{range_of, range_in, field_items, node_items}
 use Rattle.e57_edits.specs.declared.limits.Range.{Range}
 use Rattle.e57_edits.specs.Ranges.{limits_of, range_at, IsOrdered, IsSigned}
-use Rattle.e57_repack.specs.Copying.{AreSound, bodies_in}
-use Rattle.e57_repack.specs.Ranges.{content_in, AreLimits, FindsNoRanges, FindsRanges, IsRangesCause}
+use Rattle.e57_copy.specs.Several.{bodies_in, content_in, AreSound}
+use Rattle.e57_copy.proofs.Lists.{map_append, sound_parts, split_at, take_whole}
+use Rattle.e57_copy.proofs.OneTree.{IsGoodTree}
+use Rattle.e57_copy.proofs.Valid.{plain-tree}
+use Rattle.e57_copy.proofs.Walking.{IsAt, item-at, length-items_among, length-things_in}
+use Rattle.e57_repack.specs.Ranges.{AreLimits, FindsNoRanges, FindsRanges, IsRangesCause}
 use Rattle.e57_repack.specs.Widening.{joined, WidensByItem, WidensNotByItem, IsItemCause}
-use Rattle.e57_repack.proofs.Closing.{IsGoodTree}
 use Rattle.e57_repack.proofs.Joining.{joined-none, range_of-append}
-use Rattle.e57_repack.proofs.Lists.{map_append, sound_parts, split_at, take_whole}
-use Rattle.e57_repack.proofs.Valid.{plain-tree}
-use Rattle.e57_repack.proofs.Walking.{IsAt, item-at, length-items_among, length-things_in}
 
 -- ---- no entry yet
 

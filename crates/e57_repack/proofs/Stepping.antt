@@ -14,10 +14,12 @@ use Rattle.e57_tree.specs.declared.items.Item.{Item}
 use Rattle.e57_verdict.specs.Things.{Thing, things_in}
 use Rattle.e57_check.specs.Checking.{thing_in}
 use Rattle.e57_copy.specs.Items.{stated_in, CopiesItem, IsAlikeItem, LosesItem}
+use Rattle.e57_copy.proofs.Lists.{split_at, take_whole}
+use Rattle.e57_copy.proofs.Several.{ended}
+use Rattle.e57_copy.proofs.Walking.{IsAt, item-at, length-items_among, length-things_in}
 use Rattle.e57_repack.specs.Copying.{AreAlikeItems, CopiesItems, LosesItems}
-use Rattle.e57_repack.proofs.Lists.{split_at, take_whole}
-use Rattle.e57_repack.proofs.Several.{copies-more, copies-lost, ended}
-use Rattle.e57_repack.proofs.Walking.{IsAt, item-at, alike-among, alike-at, alike-count, length-items_among, length-things_in}
+use Rattle.e57_repack.proofs.Alike.{alike-among, alike-at, alike-count}
+use Rattle.e57_repack.proofs.Several.{copies-more, copies-lost}
 
 -- the first j items were copied
 abbrev pub CopiesFirst : {T : Type 0} → (T → TargetView) → ℕ → Element → Element → ℕ → ℕ → SourceView → SourceView → Writing T → List ℕ → Writing T → Type 0

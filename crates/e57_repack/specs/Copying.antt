@@ -1,5 +1,5 @@
 -- Items of a file that are copied into a new one, one after another.
-use Rattle.std.specs.Prelude.{◌≡◌, ℕ, ◌+◌, ◌/◌, ◌<◌, List, [], ◌∷◌, ◌++◌, length, map, None, IfSome}
+use Rattle.std.specs.Prelude.{◌≡◌, ℕ, List, [], ◌∷◌, IfSome}
 use Rattle.e57_base.specs.Count.{Rose}
 use Rattle.e57_base.specs.Source.{SourceView}
 use Rattle.e57_base.specs.Target.{TargetView}
@@ -7,16 +7,14 @@ use Rattle.e57_base.specs.declared.fault.AskFault.{AskFault}
 use Rattle.e57_base.specs.declared.fault.AskFault.TheVariants as of_ask
 use Rattle.e57_base.specs.declared.fault.RunFault.{RunFault}
 use Rattle.e57_base.specs.declared.fault.RunFault.TheVariants.{Refused, Source, Out, Memory, Ask}
-use Rattle.e57_page.specs.Place.{payload_length}
-use Rattle.e57_page_out.specs.Sequences.{Puts, Leaves}
-use Rattle.e57_page_out.specs.Writing.{Writing, most_bytes}
+use Rattle.e57_page_out.specs.Sequences.{Leaves}
+use Rattle.e57_page_out.specs.Writing.{Writing}
 use Rattle.e57_nodes.specs.Items.{StatedItem}
-use Rattle.e57_verdict.specs.Things.{Body, Thing, body_of, things_fault}
-use Rattle.e57_verdict.specs.Verdict.{all_pages_fault}
+use Rattle.e57_verdict.specs.Things.{Body, Thing}
 use Rattle.e57_plain.specs.Valid.{AreBodies}
-use Rattle.e57_plain.specs.Written.{sections_from, offsets_from}
 use Rattle.e57_check.specs.Asking.{AsksWhere}
 use Rattle.e57_copy.specs.Items.{IsAlikeItem}
+use Rattle.e57_copy.specs.Several.{bodies_in, AreSound, PassesFirst, PutsItems}
 
 -- as many items, and each is the same but for the limits of its integer fields
 abbrev pub AreAlikeItems : List StatedItem → List StatedItem → Type 0
@@ -24,19 +22,6 @@ AreAlikeItems [] [] = Unit {0}
 AreAlikeItems [] (other ∷ others) = ⊥
 AreAlikeItems (item ∷ items) [] = ⊥
 AreAlikeItems (item ∷ items) (other ∷ others) = IsAlikeItem item other × AreAlikeItems items others
-
--- No page of the file has a fault, and none of these clouds and blobs.
-abbrev pub AreSound : List Thing → List ℕ → Type 0
-AreSound things file = (all_pages_fault file ≡ None) × (things_fault file things ≡ None)
-
--- what they have in the file
-abbrev pub bodies_in : List ℕ → List Thing → List Body
-bodies_in file things = map (body_of file) things
-
--- The sections of these items with these bodies were put, each from a fresh page on, and these are their offsets.
-pub record PutsItems {T : Type 0} (view : T → TargetView) (n : ℕ) (items : List StatedItem) (bodies : List Body) (out : Writing T) (offsets : List ℕ) (out' : Writing T) : Type 0 where
-  pub begin : offsets ≡ offsets_from n (out.size / payload_length) items bodies
-  pub wrote : Puts view out (sections_from n (out.size / payload_length) items bodies) out'
 
 -- The items were copied: what they have in the file, where none has a fault.
 pub record CopiesItems {T : Type 0} (view : T → TargetView) (n : ℕ) (items : List StatedItem) (things : List Thing) (count : ℕ) (old new : SourceView) (out : Writing T) (offsets : List ℕ) (out' : Writing T) : Type 0 where
@@ -46,13 +31,7 @@ pub record CopiesItems {T : Type 0} (view : T → TargetView) (n : ℕ) (items :
   pub of_file : IfSome old.held (λ file. AreSound things file → bodies ≡ bodies_in file things)
   pub puts : PutsItems view n items bodies out offsets out'
 
--- The first ones of their sections would pass the last page.
-pub record PassesFirst (n size : ℕ) (items : List StatedItem) (bodies : List Body) : Type 0 where
-  pub before : List ℕ
-  pub after : List ℕ
-  pub cut : sections_from n (size / payload_length) items bodies ≡ before ++ after
-  pub past : most_bytes < size + length before
-
+-- with the first ones of their sections the file would pass its last page
 abbrev pub PassesItems : {T : Type 0} → ℕ → List StatedItem → List Thing → SourceView → Writing T → AskFault → Type 0
 PassesItems n items things old out of_ask.Large =
     IfSome old.held (λ file. AreSound things file → AreBodies items (bodies_in file things) → PassesFirst n out.size items (bodies_in file things))

@@ -1,6 +1,5 @@
 pub mod Copying
 pub mod Anew
-pub mod Ending
 pub mod Widening
 pub mod Ranges
 pub mod Repacking

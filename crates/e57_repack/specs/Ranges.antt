@@ -5,18 +5,12 @@ use Rattle.e57_base.specs.Source.{SourceView}
 use Rattle.e57_base.specs.declared.fault.OpenFault.{OpenFault}
 use Rattle.e57_base.specs.declared.fault.OpenFault.TheVariants.{Refused, Source, Memory}
 use Rattle.e57_elements.specs.Tree.{Element}
-use Rattle.e57_verdict.specs.Content.{Content}
 use Rattle.e57_verdict.specs.Things.{things_in}
 use Rattle.e57_plain.specs.Tight.{range_in}
 use Rattle.e57_edits.specs.declared.limits.Range.{Range}
 use Rattle.e57_edits.specs.Ranges.{range_at, AreOrdered, AreSigned}
 use Rattle.e57_check.specs.Asking.{AsksWhere}
-use Rattle.e57_repack.specs.Anew.{content_with}
-use Rattle.e57_repack.specs.Copying.{AreSound, bodies_in}
-
--- the content of a file with this tree, where it has no fault
-abbrev pub content_in : List ℕ → Element → Content
-content_in file e = content_with e (bodies_in file (things_in e))
+use Rattle.e57_copy.specs.Several.{content_in, AreSound}
 
 -- They are limits: one entry for each of so many nodes, a signed number of 64 bits, and one that isn't below it.
 pub record AreLimits (nodes : ℕ) (ranges : List (Option Range)) : Type 0 where

@@ -9,9 +9,9 @@ ghost use Rattle.e57_nodes.specs.Shape.{shape_of};
 ghost use Rattle.e57_verdict.specs.Things.{things_in};
 ghost use Rattle.e57_check.specs.Asking.{AsksWhere};
 ghost use Rattle.e57_chunk_out.specs.CloudCalls.{IsChunkLength};
-ghost use Rattle.e57_repack.specs.Anew.{WritesAnew, WritesNot};
+ghost use Rattle.e57_copy.specs.Ending.{Aim, EndsFile, EndsNot, WritesFile, WritesNoFile};
+ghost use Rattle.e57_repack.specs.Anew.{copied};
 ghost use Rattle.e57_repack.specs.Copying.{AreAlikeItems};
-ghost use Rattle.e57_repack.specs.Ending.{EndsFile, EndsNot};
 
 use crate::items::copy_items;
 use e57_base::{RunFault, Source, Target};
@@ -41,9 +41,11 @@ pub fn write_anew<S: Source, T: Target>(
     ensures length { pages.new.length ≡ pages.old.length }
     ensures header { pages.new.header ≡ pages.old.header }
     ensures source { AsksWhere (λ file. Unit {0}) (pages.old.length / page_length) (S.view pages.old.source) (S.view pages.new.source) }
-    ensures writes { (e d : Element) → file.now ≡ preorder e → tree.now ≡ preorder d → MatchResult result.1
-        (λ total. WritesAnew chunk d (things_in e) (S.view pages.old.source) (T.view target) name.now total (T.view result.0))
-        (λ fault. WritesNot chunk d (things_in e) (S.view pages.old.source) (S.view pages.new.source) (T.view target) name.now fault (T.view result.0)) }
+    ensures writes { (e d : Element) → file.now ≡ preorder e → tree.now ≡ preorder d →
+        let aim : Aim = copied chunk d (things_in e) (S.view pages.old.source) (S.view pages.new.source) in
+        MatchResult result.1
+        (λ total. WritesFile aim (T.view target) name.now total (T.view result.0))
+        (λ fault. WritesNoFile aim (T.view target) name.now fault (T.view result.0)) }
 {
     let _length = pages.logical_len();
     let mut out = match PagesOut::open(target, name) {
@@ -71,9 +73,11 @@ fn write_rest<S: Source, T: Target>(
     ensures length { pages.new.length ≡ pages.old.length }
     ensures header { pages.new.header ≡ pages.old.header }
     ensures source { AsksWhere (λ file. Unit {0}) (pages.old.length / page_length) (S.view pages.old.source) (S.view pages.new.source) }
-    ensures ends { (e d : Element) → file.now ≡ preorder e → tree.now ≡ preorder d → MatchResult result
-        (λ total. EndsFile T.view chunk d (things_in e) (S.view pages.old.source) out.old total (T.view out.new.target))
-        (λ fault. EndsNot T.view chunk d (things_in e) (S.view pages.old.source) (S.view pages.new.source) out.old fault (T.view out.new.target)) }
+    ensures ends { (e d : Element) → file.now ≡ preorder e → tree.now ≡ preorder d →
+        let aim : Aim = copied chunk d (things_in e) (S.view pages.old.source) (S.view pages.new.source) in
+        MatchResult result
+        (λ total. EndsFile T.view aim out.old total (T.view out.new.target))
+        (λ fault. EndsNot T.view aim out.old fault (T.view out.new.target)) }
 {
     let _size = out.size();
     let _old = file.tree().raw();

@@ -59,6 +59,7 @@ e57 check FILE   judge the whole file
 e57 blob FILE K  write the bytes of blob K
 e57 extract FILE CLOUD [--fields=A,B] [--from=I] [--count=N] [--decimal=yes]  write records as rows
 e57 repack IN OUT [--chunk=N] [--tight=yes]  write an accepted file anew
+e57 filter IN OUT CLOUD [--fields=A,B] [--keep=FIELD:LOW:HIGH].. [--every=K] [--from=I] [--count=N]  write some of a cloud
 e57 --help       show this text, as -h does
 e57 --version    show the version
 status 0   done

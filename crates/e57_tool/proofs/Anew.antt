@@ -22,12 +22,15 @@ use Rattle.e57_verdict.specs.Content.{Content, IsContent}
 use Rattle.e57_verdict.specs.Verdict.{IsVerdict, accepted, refused}
 use Rattle.e57_plain.specs.Written.{Fits}
 use Rattle.e57_copy.specs.Rewriting.{Rewriting, Gives, FallsShort, Rewrites, RewritesNot, LeavesPart, LeavesNew, BreaksNew, IsAskCause}
+use Rattle.e57_plain.specs.Kept.{Selection, kept}
+use Rattle.e57_plain.specs.Valid.{items_in}
 use Rattle.e57_repack.specs.Repacking.{repacking}
+use Rattle.e57_filter.specs.Asking.{FilterAsked, select_kept, filtering}
 use Rattle.e57_tool.specs.declared.ending.Ending.{Ending}
 use Rattle.e57_tool.specs.declared.ending.Ending.TheVariants.{Done, RefusedOnOut, RefusedSecond, Failed}
 use Rattle.e57_tool.specs.Ending.{status_of}
 use Rattle.e57_tool.specs.Outside.{Outside, outside, NoCallFails}
-use Rattle.e57_tool.specs.Run.{CallsSource, CallsTarget, OneFile, IsDone, Keeps}
+use Rattle.e57_tool.specs.Run.{CallsSource, OneFile, IsDone, Keeps}
 use Rattle.e57_tool.specs.Rewritten.{told, LeavesUnclosed, RewritesFile, IsRewritable, HasRewritableFile, rewriting}
 use Rattle.e57_tool.proofs.Checking.{BeginsWithOpening, HasOneVerdict, not_both, unopened_judged}
 use Rattle.e57_tool.proofs.Keeping.{held_file}
@@ -177,6 +180,14 @@ GivesOne r = (c d e : Content) → r.gives c d → r.gives c e → d ≡ e
 
 pub repack_gives_one : (chunk : ℕ) (is_tight : Bool) → GivesOne (repacking chunk is_tight)
 repack_gives_one chunk is_tight c d e first second = first ∙ sym second
+
+same_answer : {A E : Type 0} (result : Result A E) (a b : A) → result ≡ Ok a → result ≡ Ok b → a ≡ b
+same_answer result a b first second = cc
+
+pub filter_gives_one : (asked : FilterAsked) → GivesOne (filtering asked)
+filter_gives_one asked c d e first second =
+    let same : first.selection ≡ second.selection = same_answer (select_kept asked (items_in c)) first.selection second.selection first.selects second.selects in
+    first.keeps ∙ (ap (λ (s : Selection). kept s c) same ∙ sym second.keeps)
 
 not_refused : HasOneVerdict → (file : List ℕ) (found : Fault) → (clouds blobs records : ℕ) × IsVerdict file (accepted clouds blobs records) → IsVerdict file (refused found) → ⊥
 not_refused one file found (clouds, blobs, records, accepts) wrong =

@@ -9,5 +9,7 @@ pub mod RowsAsked
 pub mod Numbers
 pub mod Names
 pub mod OptionWords
+pub mod Cutting
+pub mod Putting
 mod Checking
 pub mod Anew

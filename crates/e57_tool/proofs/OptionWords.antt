@@ -1,5 +1,5 @@
 -- The words that are left, read as options.
-use Rattle.std.proofs.Common.{◌≡◌, ℕ, ◌+◌, ◌<◌, ◌≤◌, List, length, drop, map, Option, Some, None, Ok, Err, refl, get_or}
+use Rattle.std.proofs.Common.{◌≡◌, ℕ, ◌+◌, ◌<◌, ◌≤◌, List, length, drop, map, Some, None, Ok, Err, refl, get_or}
 use Rattle.std.proofs.lemmas.List.{drop_all, length-map}
 use Rattle.e57_tool.specs.Options.{OptionRow, with_option, with_options}
 use Rattle.e57_tool.proofs.Reading.{text_at}

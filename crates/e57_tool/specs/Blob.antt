@@ -1,7 +1,6 @@
 -- `blob FILE K`: the file is opened, and the bytes of one blob are put.
-use Rattle.std.specs.Prelude.{◌≡◌, ◌⊎◌, ℕ, ◌/◌, ◌≤◌, max, List, [], ◌∷◌, ◌++◌, length, Some, None, IfSome}
+use Rattle.std.specs.Prelude.{◌≡◌, ◌⊎◌, ℕ, ◌/◌, ◌≤◌, max, List, [], ◌∷◌, ◌++◌, length, IfSome}
 use Rattle.e57_base.specs.Source.{SourceView, Asks, page_length}
-use Rattle.e57_page.specs.declared.header.Header.{Header}
 use Rattle.e57_page.specs.Place.{payload_length, RisesWithin, span_end}
 use Rattle.e57_page.specs.Header.{header_of}
 use Rattle.e57_page.specs.File.{logical_size}

@@ -1,5 +1,5 @@
 -- What each command promises.
-use Rattle.e57_tool.specs.Words.{Command, HelpAsked, VersionAsked, PagesOf, InfoOf, ListOf, CheckOf, BlobOf, ExtractOf, RepackOf}
+use Rattle.e57_tool.specs.Words.{Command, HelpAsked, VersionAsked, PagesOf, InfoOf, ListOf, CheckOf, BlobOf, ExtractOf, RepackOf, FilterOf}
 use Rattle.e57_tool.specs.Run.{Promise}
 use Rattle.e57_tool.specs.Text.{putting, help_text, version_text}
 use Rattle.e57_tool.specs.Pages.{pages_promise}
@@ -8,6 +8,7 @@ use Rattle.e57_tool.specs.Check.{check_promise}
 use Rattle.e57_tool.specs.Blob.{blob_promise}
 use Rattle.e57_tool.specs.Extract.{extract_promise}
 use Rattle.e57_tool.specs.Repack.{repack_promise}
+use Rattle.e57_tool.specs.Filter.{filter_promise}
 
 abbrev pub promise_of : Command → Promise
 promise_of HelpAsked = putting help_text
@@ -19,3 +20,4 @@ promise_of (CheckOf file) = check_promise file
 promise_of (BlobOf file k) = blob_promise file k
 promise_of (ExtractOf file what) = extract_promise file what
 promise_of (RepackOf file made chunk is_tight) = repack_promise file made chunk is_tight
+promise_of (FilterOf file made what) = filter_promise file made what

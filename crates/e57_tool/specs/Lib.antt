@@ -1,6 +1,7 @@
 pub mod Cursor
 pub mod Options
 pub mod RepackOptions
+pub mod FilterOptions
 pub mod Words
 pub mod Lines
 pub mod Status
@@ -19,3 +20,4 @@ pub mod Commands
 pub mod Check
 pub mod Rewritten
 pub mod Repack
+pub mod Filter

@@ -5,7 +5,7 @@ use Rattle.std.specs.Option.{option_map_or, option_and_then, unwrap_or}
 use Rattle.std.specs.Str.{bytes_eq}
 use Rattle.e57_select.specs.Asking.{names_in, most_asked}
 use Rattle.e57_show.specs.Extract.{Asked}
-use Rattle.e57_tool.specs.Cursor.{Unread, number_of}
+use Rattle.e57_tool.specs.Cursor.{number_of}
 use Rattle.e57_tool.specs.declared.options.RowsOptions.{RowsOptions}
 
 -- One option of a command: what its word begins with, and what is given with its value beside what was given before; none if

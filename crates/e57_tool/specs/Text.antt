@@ -18,6 +18,7 @@ help_text =
     ++ codes "e57 blob FILE K  write the bytes of blob K\n"
     ++ codes "e57 extract FILE CLOUD [--fields=A,B] [--from=I] [--count=N] [--decimal=yes]  write records as rows\n"
     ++ codes "e57 repack IN OUT [--chunk=N] [--tight=yes]  write an accepted file anew\n"
+    ++ codes "e57 filter IN OUT CLOUD [--fields=A,B] [--keep=FIELD:LOW:HIGH].. [--every=K] [--from=I] [--count=N]  write some of a cloud\n"
     ++ codes "e57 --help       show this text, as -h does\n"
     ++ codes "e57 --version    show the version\n"
     ++ codes "status 0   done\n"

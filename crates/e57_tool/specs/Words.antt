@@ -3,9 +3,12 @@ use Rattle.std.specs.Prelude.{ℕ, Bool, if◌then◌else◌, List, [], ◌∷�
 use Rattle.std.specs.Str.{bytes_eq}
 use Rattle.e57_show.specs.Extract.{Asked, IsLimited, asked_by}
 use Rattle.e57_chunk_out.specs.CloudCalls.{IsChunkLength}
+use Rattle.e57_filter.specs.Asking.{FilterAsked}
+use Rattle.e57_filter.specs.Asks.{filter_asked, IsLimitedFilter}
 use Rattle.e57_tool.specs.Cursor.{Unread, next_place, next_other, next_number, at_end}
 use Rattle.e57_tool.specs.Options.{RowsGiven, nothing_given, with_options, rows_options, rows_asked}
 use Rattle.e57_tool.specs.RepackOptions.{RepackGiven, no_repack_given, repack_rows, chunk_given, tight_given}
+use Rattle.e57_tool.specs.FilterOptions.{FilterGiven, no_filter_given, filter_rows, filter_given}
 use Rattle.e57_tool.specs.declared.words.Ask.{Ask}
 use Rattle.e57_tool.specs.declared.words.Ask.TheVariants as asked
 
@@ -29,6 +32,8 @@ pub data Command : Type 0 where
   ExtractOf : (file : List ℕ) → (what : Asked) → Command
   -- `repack IN OUT`, and options
   RepackOf : (file made : List ℕ) → (chunk : ℕ) → (is_tight : Bool) → Command
+  -- `filter IN OUT CLOUD`, and options
+  FilterOf : (file made : List ℕ) → (what : FilterAsked) → Command
 
 -- the one place behind a command, and no word behind it
 abbrev pub only_place : Unread → Result (List ℕ) ℕ
@@ -83,6 +88,25 @@ repack_ask unread = of_file (next_place unread) where
   of_file (Ok (file, rest)) = of_made file (next_other file rest)
   of_file (Err at) = Err at
 
+-- a file's name, the name of a new file, which is another, the number of a cloud, and options
+abbrev pub filter_ask : Unread → Result Command ℕ
+filter_ask unread = of_file (next_place unread) where
+  of_options : List ℕ → List ℕ → ℕ → Result FilterGiven ℕ → Result Command ℕ
+  of_options file made cloud (Ok given) = Ok (FilterOf file made (filter_given cloud given))
+  of_options file made cloud (Err at) = Err at
+
+  of_cloud : List ℕ → List ℕ → Result (ℕ × Unread) ℕ → Result Command ℕ
+  of_cloud file made (Ok (cloud, rest)) = of_options file made cloud (with_options filter_rows rest.at rest.words no_filter_given)
+  of_cloud file made (Err at) = Err at
+
+  of_made : List ℕ → Result (List ℕ × Unread) ℕ → Result Command ℕ
+  of_made file (Ok (made, rest)) = of_cloud file made (next_number rest)
+  of_made file (Err at) = Err at
+
+  of_file : Result (List ℕ × Unread) ℕ → Result Command ℕ
+  of_file (Ok (file, rest)) = of_made file (next_other file rest)
+  of_file (Err at) = Err at
+
 -- what a command with the words behind it asks for, or the number of the first word at fault
 unfoldable pub command_ask : List ℕ → Unread → Result Command ℕ
 command_ask command words =
@@ -96,6 +120,7 @@ command_ask command words =
     else if bytes_eq command (codes "blob") then blob_ask words
     else if bytes_eq command (codes "extract") then extract_ask words
     else if bytes_eq command (codes "repack") then repack_ask words
+    else if bytes_eq command (codes "filter") then filter_ask words
     else Err 0
 
 -- What the words ask for, or the number of the first word at fault. The command is word 0. Where a place is missing, it is
@@ -115,9 +140,12 @@ command_of (asked.Check file) = CheckOf file.now
 command_of (asked.Blob file k) = BlobOf file.now k
 command_of (asked.Extract file given) = ExtractOf file.now (asked_by given)
 command_of (asked.Repack file made chunk is_tight) = RepackOf file.now made.now chunk is_tight
+command_of (asked.Filter file made given) = FilterOf file.now made.now (filter_asked given)
 
--- no number of records is above the most that may be asked for, and a chunk may have the asked number of them
+-- no number of records is above the most that may be asked for, and a chunk may have the asked number of them; of a cloud that is
+-- filtered each record or each of some is looked at
 abbrev pub IsLimitedAsk : Ask → Type 0
 IsLimitedAsk (asked.Extract file given) = IsLimited given
 IsLimitedAsk (asked.Repack file made chunk is_tight) = IsChunkLength chunk
+IsLimitedAsk (asked.Filter file made given) = IsLimitedFilter given
 IsLimitedAsk _ = Unit {0}

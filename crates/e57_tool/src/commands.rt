@@ -8,6 +8,7 @@ use crate::blob::show_blob;
 use crate::check::check_file;
 use crate::ending::Ending;
 use crate::extract::show_rows;
+use crate::filter::filter_file;
 use crate::info::show_info;
 use crate::list::show_list;
 use crate::pages::test_pages;
@@ -39,6 +40,9 @@ pub fn perform<S: Source, T: Target, O: Sink>(
         Ask::Extract(file, ask) => show_rows(alloc, file, &ask, source, target, out),
         Ask::Repack(file, made, chunk, tight) => {
             repack_file(alloc, file, made, chunk, tight, source, target, out)
+        }
+        Ask::Filter(file, made, ask) => {
+            filter_file(alloc, file, made, &ask, source, target, out)
         }
     }
 }

@@ -1,6 +1,7 @@
 //! How a command ends.
 
-ghost use Rattle.std.specs.Prelude.{◌≡◌, Some, None, MatchOption};
+ghost use Rattle.std.specs.Prelude.{◌≡◌, Some, None, MatchOption, MatchResult};
+ghost use Rattle.e57_tool.specs.declared.ending.Ending.TheVariants.{Done, Failed};
 ghost use Rattle.e57_tool.specs.Ending.{status_of, line_of, fault_status, fault_line};
 
 use crate::lines::{Line, ask_line, refused_line, second_line, text_line};
@@ -21,6 +22,16 @@ pub enum Ending {
 }
 
 impl Ending {
+    /// How a command ends that writes one file, by how that was written.
+    pub fn of_writing(answer: Result<u64, RunFault>) -> Ending
+        ensures { MatchResult answer (λ total. result ≡ Done) (λ fault. result ≡ Failed fault) }
+    {
+        match answer {
+            Ok(_) => Ending::Done,
+            Err(fault) => Ending::Failed(fault),
+        }
+    }
+
     /// The status of the program.
     pub fn status(&self) -> Status
         ensures { result ≡ status_of self.now }

@@ -1,14 +1,14 @@
-//! Words `--NAME=VALUE` behind the places of a command.
+//! The options of `extract`, and values that options of other commands have too.
 
-ghost use Rattle.std.specs.Prelude.{◌≡◌, ◌+◌, ◌<◌, ◌≤◌, length, map, option_map, MatchOption, MatchResult, Ok, Err, None, Some, IfSome, IfOk};
+ghost use Rattle.std.specs.Prelude.{◌≡◌, ◌+◌, ◌<◌, ◌≤◌, length, map, option_map, None, Some, IfSome};
 ghost use Rattle.std.specs.List.{list_any};
 ghost use Rattle.std.specs.Str.{bytes_eq};
 ghost use Rattle.e57_select.specs.Asking.{names_in, most_asked};
 ghost use Rattle.e57_show.specs.Extract.{IsLimited, asked_by};
-ghost use Rattle.e57_tool.specs.Cursor.{unread};
-ghost use Rattle.e57_tool.specs.Options.{AreLimited, are_distinct, decimal_asked, given_by, is_new, names_asked, nothing_given, number_asked, rows_asked, rows_options, value_behind, with_option, with_options, given_once};
+ghost use Rattle.e57_tool.specs.Options.{AreLimited, RowsGiven, are_distinct, decimal_asked, given_by, is_new, names_asked, nothing_given, number_asked, rows_asked, rows_options, value_behind, given_once};
 
-use crate::cursor::{Cursor, WordFault, number_of};
+use crate::cursor::number_of;
+use crate::given::Given;
 use e57_show::RowsAsk;
 
 /// The options of `extract`.
@@ -25,19 +25,6 @@ pub struct RowsOptions<'a> {
 }
 
 impl<'a> RowsOptions<'a> {
-    /// No option.
-    fn none() -> RowsOptions<'a>
-        ensures given { given_by result ≡ nothing_given }
-        ensures limits { AreLimited result }
-    {
-        RowsOptions {
-            fields: None,
-            from: None,
-            count: None,
-            decimal: None,
-        }
-    }
-
     /// What they ask of a cloud: all its fields and records, where they don't say otherwise.
     pub fn of_cloud(&self, cloud: u64) -> RowsAsk<'a>
         requires { AreLimited self.now }
@@ -68,7 +55,7 @@ pub fn value_behind<'a>(front: &str, word: &'a str) -> Option<&'a str>
 }
 
 // The number of a record, or a number of records.
-fn number_asked(value: &str) -> Option<u64>
+pub fn number_asked(value: &str) -> Option<u64>
     ensures value { result ≡ number_asked value.now }
     ensures limit { IfSome result (λ n. n ≤ most_asked) }
 {
@@ -116,7 +103,7 @@ fn name_count(list: &str) -> usize
 
 // The list, if it has 1 to 512 names, all different and none empty.
 #[tactic(auto, unfolding(crate::specs::Options::names_asked))]
-fn names_asked(value: &str) -> Option<&str>
+pub fn names_asked(value: &str) -> Option<&str>
     ensures { option_map (λ list. names_in list.now) result ≡ names_asked value.now }
 {
     if name_count(value) > MOST_NAMES || !are_distinct(value) {
@@ -200,41 +187,40 @@ fn with_decimal<'a>(given: RowsOptions<'a>, value: &'a str) -> Option<RowsOption
     }
 }
 
-// These options and one more that a word writes, if it writes one that may stand here.
-#[tactic(auto, unfolding(crate::specs::Options::with_option))]
-fn with_option<'a>(given: RowsOptions<'a>, word: &'a str) -> Option<RowsOptions<'a>>
-    requires { AreLimited given }
-    ensures given { option_map given_by result ≡ with_option rows_options word.now (given_by given.entry) }
-    ensures limits { IfSome result AreLimited }
-{
-    if let Some(value) = value_behind("--fields=", word) {
-        return with_fields(given, value);
-    }
-    if let Some(value) = value_behind("--from=", word) {
-        return with_from(given, value);
-    }
-    if let Some(value) = value_behind("--count=", word) {
-        return with_count(given, value);
-    }
-    if let Some(value) = value_behind("--decimal=", word) {
-        return with_decimal(given, value);
-    }
-    None
-}
+impl<'a> Given<'a> for RowsOptions<'a> {
+    ghost Meaning = { RowsGiven };
 
-/// The options that the words which are left write, each at most once.
-pub fn read_options<'a>(words: Cursor<'a>) -> Result<RowsOptions<'a>, WordFault>
-    ensures given { MatchResult result
-        (λ options. with_options rows_options (unread words.entry).at (unread words.entry).words nothing_given ≡ Ok (given_by options))
-        (λ fault. with_options rows_options (unread words.entry).at (unread words.entry).words nothing_given ≡ Err fault.at) }
-    ensures limits { IfOk result AreLimited }
-{
-    let mut given = RowsOptions::none();
-    for at in words.next..words.words.len() {
-        let Some(more) = with_option(given, words.words[at].as_str()) else {
-            return Err(WordFault { at: at as u64 });
-        };
-        given = more;
+    ghost meaning = { λ options. given_by options };
+
+    ghost rows = { rows_options };
+
+    ghost nothing = { nothing_given };
+
+    ghost is_lawful = { λ options. AreLimited options };
+
+    fn none() -> RowsOptions<'a> {
+        RowsOptions {
+            fields: None,
+            from: None,
+            count: None,
+            decimal: None,
+        }
     }
-    Ok(given)
+
+    #[tactic(auto, unfolding(crate::specs::Options::with_option))]
+    fn with_option(self, word: &'a str) -> Option<RowsOptions<'a>> {
+        if let Some(value) = value_behind("--fields=", word) {
+            return with_fields(self, value);
+        }
+        if let Some(value) = value_behind("--from=", word) {
+            return with_from(self, value);
+        }
+        if let Some(value) = value_behind("--count=", word) {
+            return with_count(self, value);
+        }
+        if let Some(value) = value_behind("--decimal=", word) {
+            return with_decimal(self, value);
+        }
+        None
+    }
 }

@@ -1,9 +1,7 @@
 //! `repack IN OUT`
 
-ghost use Rattle.std.specs.Prelude.{◌≡◌, MatchResult};
 ghost use Rattle.e57_chunk_out.specs.CloudCalls.{IsChunkLength};
 ghost use Rattle.e57_repack.specs.Repacking.{repacking};
-ghost use Rattle.e57_tool.specs.declared.ending.Ending.TheVariants.{Done, Failed};
 ghost use Rattle.e57_tool.specs.Repack.{repack_promise};
 ghost use Rattle.e57_tool.specs.Rewritten.{RewritesFile};
 ghost use Rattle.e57_tool.specs.Run.{Keeps};
@@ -14,16 +12,6 @@ use e57_page::open_file;
 use e57_repack::repack;
 use e57_verdict::{one_content, one_verdict, opening_agrees};
 use std::alloc::Global;
-
-// How the command ends, by how the file was written anew.
-fn ending_of(answer: Result<u64, RunFault>) -> Ending
-    ensures { MatchResult answer (λ total. result ≡ Done) (λ fault. result ≡ Failed fault) }
-{
-    match answer {
-        Ok(_) => Ending::Done,
-        Err(fault) => Ending::Failed(fault),
-    }
-}
 
 // Opens the file and writes it anew.
 fn write_anew<S: Source, T: Target>(
@@ -46,7 +34,7 @@ fn write_anew<S: Source, T: Target>(
         Err((source, fault)) => return (source, target, Ending::Failed(RunFault::from(fault))),
     };
     let (target, answer) = repack(alloc, &mut pages, target, made, chunk, tight);
-    (pages.into_source(), target, ending_of(answer))
+    (pages.into_source(), target, Ending::of_writing(answer))
 }
 
 /// Opens the file, judges it, and writes a file of its content under the other name, in chunks of `chunk` records and, where

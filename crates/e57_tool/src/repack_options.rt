@@ -1,12 +1,12 @@
 //! The options of `repack`.
 
-ghost use Rattle.std.specs.Prelude.{◌≡◌, IfOk, IfSome, MatchResult, None, Ok, Err, Some, option_map};
+ghost use Rattle.std.specs.Prelude.{◌≡◌, IfSome, None, Some, option_map};
 ghost use Rattle.e57_chunk_out.specs.CloudCalls.{IsChunkLength};
-ghost use Rattle.e57_tool.specs.Cursor.{unread};
-ghost use Rattle.e57_tool.specs.Options.{given_once, with_option, with_options};
-ghost use Rattle.e57_tool.specs.RepackOptions.{IsLawfulRepack, chunk_asked, chunk_given, no_repack_given, repack_given, repack_rows, tight_asked, tight_given};
+ghost use Rattle.e57_tool.specs.Options.{given_once};
+ghost use Rattle.e57_tool.specs.RepackOptions.{IsLawfulRepack, RepackGiven, chunk_asked, chunk_given, no_repack_given, repack_given, repack_rows, tight_asked, tight_given};
 
-use crate::cursor::{Cursor, WordFault, number_of};
+use crate::cursor::number_of;
+use crate::given::Given;
 use crate::options::value_behind;
 
 /// The options of `repack`.
@@ -25,17 +25,6 @@ const DEFAULT_CHUNK: u32 = 8192;
 const MOST_OF_CHUNK: u64 = 1 << 20;
 
 impl RepackOptions {
-    /// No option.
-    fn none() -> RepackOptions
-        ensures given { repack_given result ≡ no_repack_given }
-        ensures lawful { IsLawfulRepack result }
-    {
-        RepackOptions {
-            chunk: None,
-            tight: None,
-        }
-    }
-
     /// How many records a chunk has.
     pub fn chunk_length(&self) -> u32
         requires { IsLawfulRepack self.now }
@@ -103,35 +92,32 @@ fn with_tight(given: RepackOptions, value: &str) -> Option<RepackOptions>
     }
 }
 
-// These options and one more that a word writes, if it writes one that may stand here.
-#[tactic(auto, unfolding(crate::specs::Options::with_option))]
-fn with_option(given: RepackOptions, word: &str) -> Option<RepackOptions>
-    requires { IsLawfulRepack given }
-    ensures given { option_map repack_given result ≡ with_option repack_rows word.now (repack_given given) }
-    ensures lawful { IfSome result IsLawfulRepack }
-{
-    if let Some(value) = value_behind("--chunk=", word) {
-        return with_chunk(given, value);
-    }
-    if let Some(value) = value_behind("--tight=", word) {
-        return with_tight(given, value);
-    }
-    None
-}
+impl<'a> Given<'a> for RepackOptions {
+    ghost Meaning = { RepackGiven };
 
-/// The options that the words which are left write, each at most once.
-pub fn read_repack_options(words: Cursor<'_>) -> Result<RepackOptions, WordFault>
-    ensures given { MatchResult result
-        (λ options. with_options repack_rows (unread words.entry).at (unread words.entry).words no_repack_given ≡ Ok (repack_given options))
-        (λ fault. with_options repack_rows (unread words.entry).at (unread words.entry).words no_repack_given ≡ Err fault.at) }
-    ensures lawful { IfOk result IsLawfulRepack }
-{
-    let mut given = RepackOptions::none();
-    for at in words.next..words.words.len() {
-        let Some(more) = with_option(given, words.words[at].as_str()) else {
-            return Err(WordFault { at: at as u64 });
-        };
-        given = more;
+    ghost meaning = { λ options. repack_given options };
+
+    ghost rows = { repack_rows };
+
+    ghost nothing = { no_repack_given };
+
+    ghost is_lawful = { λ options. IsLawfulRepack options };
+
+    fn none() -> RepackOptions {
+        RepackOptions {
+            chunk: None,
+            tight: None,
+        }
     }
-    Ok(given)
+
+    #[tactic(auto, unfolding(crate::specs::Options::with_option))]
+    fn with_option(self, word: &'a str) -> Option<RepackOptions> {
+        if let Some(value) = value_behind("--chunk=", word) {
+            return with_chunk(self, value);
+        }
+        if let Some(value) = value_behind("--tight=", word) {
+            return with_tight(self, value);
+        }
+        None
+    }
 }

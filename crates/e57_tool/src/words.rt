@@ -2,15 +2,18 @@
 
 ghost use Rattle.std.specs.Prelude.{◌≡◌, Ok, Err, map, string_bytes, IfOk, MatchResult};
 ghost use Rattle.e57_tool.specs.Cursor.{unread, at_end};
-ghost use Rattle.e57_tool.specs.Words.{IsLimitedAsk, ask_of, blob_ask, command_ask, command_of, extract_ask, only_place, repack_ask};
+ghost use Rattle.e57_tool.specs.Words.{IsLimitedAsk, ask_of, blob_ask, command_ask, command_of, extract_ask, filter_ask, only_place, repack_ask};
 
 use crate::cursor::{Cursor, WordFault};
-use crate::options::read_options;
-use crate::repack_options::read_repack_options;
+use crate::filter_options::FilterOptions;
+use crate::given::read_options;
+use crate::options::RowsOptions;
+use crate::repack_options::RepackOptions;
+use e57_filter::FilterAsk;
 use e57_show::RowsAsk;
 
 /// What the words ask for: a command with its places and options.
-#[derive(Clone, Copy, Debug, PartialEq, Eq)]
+#[derive(Clone, Debug, PartialEq, Eq, Drop)]
 pub enum Ask<'a> {
     /// `--help`, `-h`
     Help,
@@ -30,6 +33,8 @@ pub enum Ask<'a> {
     Extract(&'a str, RowsAsk<'a>),
     /// `repack IN OUT`, how many records a chunk has, and whether limits become narrow
     Repack(&'a str, &'a str, u32, bool),
+    /// `filter IN OUT CLOUD`, and options
+    Filter(&'a str, &'a str, FilterAsk<'a>),
 }
 
 // The one place behind a command, a file's name, and no word behind it.
@@ -74,7 +79,7 @@ fn read_extract(mut words: Cursor<'_>) -> Result<Ask<'_>, WordFault>
 {
     let file = words.place()?;
     let cloud = words.number()?;
-    let options = read_options(words)?;
+    let options: RowsOptions<'_> = read_options(words)?;
     Ok(Ask::Extract(file, options.of_cloud(cloud)))
 }
 
@@ -87,8 +92,22 @@ fn read_repack(mut words: Cursor<'_>) -> Result<Ask<'_>, WordFault>
 {
     let file = words.place()?;
     let made = words.other_place(file)?;
-    let options = read_repack_options(words)?;
+    let options: RepackOptions = read_options(words)?;
     Ok(Ask::Repack(file, made, options.chunk_length(), options.is_tight()))
+}
+
+// A file's name, the name of a new file, the number of a cloud, and options.
+fn read_filter(mut words: Cursor<'_>) -> Result<Ask<'_>, WordFault>
+    ensures ask { MatchResult result
+        (λ ask. filter_ask (unread words.entry) ≡ Ok (command_of ask))
+        (λ fault. filter_ask (unread words.entry) ≡ Err fault.at) }
+    ensures limits { IfOk result IsLimitedAsk }
+{
+    let file = words.place()?;
+    let made = words.other_place(file)?;
+    let cloud = words.number()?;
+    let options: FilterOptions<'_> = read_options(words)?;
+    Ok(Ask::Filter(file, made, options.of_cloud(cloud)))
 }
 
 // What a command with the words behind it asks for.
@@ -110,6 +129,7 @@ fn read_command<'a>(command: &str, words: Cursor<'a>) -> Result<Ask<'a>, WordFau
         "blob" => read_blob(words),
         "extract" => read_extract(words),
         "repack" => read_repack(words),
+        "filter" => read_filter(words),
         _ => Err(WordFault { at: 0 }),
     }
 }

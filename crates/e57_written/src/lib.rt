@@ -5,6 +5,8 @@
 #[cfg(test)]
 mod failing;
 #[cfg(test)]
+mod filtered;
+#[cfg(test)]
 mod plain;
 #[cfg(test)]
 mod plain_packets;

@@ -3,6 +3,9 @@
 use crate::plain_streams::{Kind, stream};
 use std::alloc::{AllocError, Global};
 
+/// A field: its number, and what its items are.
+pub type Numbered = (u64, Kind);
+
 // The most bytes of a packet.
 const MOST: usize = 65_536;
 
@@ -75,16 +78,15 @@ fn empty(alloc: Global, count: usize) -> Result<Vec<Vec<u8>>, AllocError> {
     Ok(streams)
 }
 
-// The streams of the records from `first` on and before `until`.
+// The streams of these records.
 fn group_of(
     alloc: Global,
-    kinds: &[Kind],
-    first: u64,
-    until: u64,
+    fields: &[Numbered],
+    records: &[u64],
 ) -> Result<Vec<Vec<u8>>, AllocError> {
     let mut group = Vec::new(alloc);
-    for (f, kind) in kinds.iter().enumerate() {
-        group.push(stream(alloc, *kind, f as u64, first, until)?)?;
+    for (f, kind) in fields {
+        group.push(stream(alloc, *kind, *f, records)?)?;
     }
     Ok(group)
 }
@@ -93,19 +95,15 @@ fn group_of(
 fn push_chunk(
     alloc: Global,
     out: &mut Vec<u8>,
-    kinds: &[Kind],
-    first: u64,
-    until: u64,
+    fields: &[Numbered],
+    records: &[u64],
 ) -> Result<(), AllocError> {
     let mut run: Option<Vec<Vec<u8>>> = None;
     let mut is_first = true;
-    let mut at = first;
-    for _ in 0..until.wrapping_sub(first).div_ceil(8) {
-        let end = at.wrapping_add(8).min(until);
-        let group = group_of(alloc, kinds, at, end)?;
-        at = end;
+    for some in records.chunks(8) {
+        let group = group_of(alloc, fields, some)?;
         if let Some(mut streams) = run {
-            let more = size_of(&group).wrapping_sub(size_of(&empty(alloc, kinds.len())?));
+            let more = size_of(&group).wrapping_sub(size_of(&empty(alloc, fields.len())?));
             if size_of(&streams).wrapping_add(more) <= MOST {
                 for (f, bytes) in group.iter().enumerate() {
                     if let Some(stream) = streams.get_mut(f) {
@@ -165,12 +163,12 @@ fn push_level(
     Ok(above)
 }
 
-/// The section of the first `count` records in chunks of `chunk`, from this page on.
+/// The section of these fields and records in chunks of `chunk`, from this page on.
 pub fn section(
     alloc: Global,
-    kinds: &[Kind],
-    chunk: u64,
-    count: u64,
+    fields: &[Numbered],
+    chunk: usize,
+    records: &[u64],
     page: u64,
 ) -> Result<Vec<u8>, AllocError> {
     let mut out = Vec::new(alloc);
@@ -178,11 +176,10 @@ pub fn section(
     let start = page.wrapping_mul(1020);
     let mut entries = Vec::new(alloc);
     let mut first = 0u64;
-    for _ in 0..count.div_ceil(chunk.max(1)) {
-        let until = first.wrapping_add(chunk).min(count);
+    for some in records.chunks(chunk.max(1)) {
         entries.push((first, physical(start.wrapping_add(out.len() as u64))))?;
-        push_chunk(alloc, &mut out, kinds, first, until)?;
-        first = until;
+        push_chunk(alloc, &mut out, fields, some)?;
+        first = first.wrapping_add(some.len() as u64);
     }
     for level in 0..4u8 {
         entries = push_level(alloc, &mut out, page, level, &entries)?;

@@ -54,18 +54,23 @@ fn push_text(bytes: &mut Vec<u8>, number: u64, limit: u64) -> Result<(), AllocEr
     Ok(())
 }
 
-/// The bytes of field f over the records from `first` on and before `until`.
-pub fn stream(
-    alloc: Global,
-    kind: Kind,
-    f: u64,
-    first: u64,
-    until: u64,
-) -> Result<Vec<u8>, AllocError> {
+/// The integer of field f and record i, in so many bits and with this least value.
+pub fn integer(width: u64, low: i64, f: u64, i: u64) -> i64 {
+    let number = scattered(f, i);
+    let kept = if width < 64 {
+        number & (1u64 << (width % 64)).wrapping_sub(1)
+    } else {
+        number
+    };
+    low.wrapping_add(i64::from_le_bytes(kept.to_le_bytes()))
+}
+
+/// The bytes of field f over these records.
+pub fn stream(alloc: Global, kind: Kind, f: u64, records: &[u64]) -> Result<Vec<u8>, AllocError> {
     let mut bytes = Vec::new(alloc);
     let mut used = 0;
-    for i in first..until {
-        let number = scattered(f, i);
+    for i in records {
+        let number = scattered(f, *i);
         match kind {
             Kind::Bits(width) => {
                 push_bits(&mut bytes, used, number, width)?;

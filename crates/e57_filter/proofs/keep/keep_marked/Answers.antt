@@ -28,4 +28,4 @@ returns-clause-keeps g c =
     (λ fault. LosesRun g.T.Target.view k (map (passing pass 0) (take c.args.kept columns)) c.args.cloud.now c.args.out.now fault c.pick_run.new.cloud c.pick_run.new.out)) number
     (subst (λ (more : List (List Value)). MatchResult c.pick_run.result
     (λ x. AddsRecords g.T.Target.view (mark_count flags) more c.args.cloud.now c.args.out.now c.pick_run.new.cloud c.pick_run.new.out)
-    (λ fault. LosesRun g.T.Target.view (mark_count flags) more c.args.cloud.now c.args.out.now fault c.pick_run.new.cloud c.pick_run.new.out)) same c.pick_run.ensures)
+    (λ fault. LosesRun g.T.Target.view (mark_count flags) more c.args.cloud.now c.args.out.now fault c.pick_run.new.cloud c.pick_run.new.out)) same c.pick_run.ensures.picks)

@@ -33,6 +33,7 @@ loop-at-init g c =
       keeps = subst (λ n. KeepsFirst g.T.Target.view s c.args.kept a n old c.args.cloud.now c.args.out.now old c.args.blocks.now c.args.cloud.now c.args.out.now) none
           (keeps_none g.T.Target.view s c.args.kept c.args.blocks.now c.args.from c.args.count old c.args.cloud.now c.args.out.now c.requires.kinds c.requires.stand c.requires.between c.requires.unspent c.requires.state);
       standing = c.requires.standing;
+      idle = λ same. refl;
     }
 
 pub returns-in-Err-clause-keeps : goal.returns-in-Err-clause-keeps
@@ -143,4 +144,9 @@ loop-at-preserved g c =
       met = asks_on g.T.Target.view s c.args.kept c.args.blocks.now c.args.from c.args.count old c.args.cloud.now c.args.out.now c.loop-at.at c.run_length.result mid c.loop-at.blocks c.loop-at.cloud c.loop-at.out inv.met inv.same inv.low (omega (arith, few, below)) inv.keeps new fills.met;
       keeps = keeps_on g.T.Target.view s c.args.kept c.args.blocks.now c.args.from c.args.count old c.args.cloud.now c.args.out.now c.loop-at.at c.run_length.result mid c.loop-at.blocks c.loop-at.cloud c.loop-at.out inv.met inv.same inv.low (omega (arith, few, below)) inv.keeps c.in-Ok.n new c.fill.new.self c.in-Ok.ensures.of c.in-Ok.ensures.fills full c.keep_run.new.cloud c.keep_run.new.out adds;
       standing = still_standing g.T.Target.view number more c.loop-at.cloud c.keep_run.new.cloud c.loop-at.out c.keep_run.new.out adds inv.standing;
+      idle = λ same.
+          let before = inv.keeps.adds.count in
+          let now = adds.count in
+          let none : c.keep_run.new.cloud.count ≡ c.loop-at.cloud.count = omega (arith, same, before, now) in
+          c.in_default.ensures.idle none ∙ inv.idle (omega (arith, same, before, now));
     }

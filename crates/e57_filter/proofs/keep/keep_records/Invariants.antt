@@ -17,6 +17,7 @@ invariant-loop-at g l = record {
   met : AsksMet (OnSlice (slice_at l.fn.blocks l.from l.count)) (g.S.Source.view l.fn.pages.source) (g.S.Source.view l.pages.source);
   keeps : KeepsFirst g.T.Target.view (sieve_of l.every l.tests) l.kept (slice_at l.fn.blocks l.from l.count) (l.at - l.from) (g.S.Source.view l.fn.pages.source) l.fn.cloud l.fn.out (g.S.Source.view l.pages.source) l.blocks l.cloud l.out;
   standing : IsStanding l.cloud l.out;
+  idle : l.cloud.count ≡ l.fn.cloud.count → l.out.size ≡ l.fn.out.size;
 }
 
 abbrev pub decreases-loop-at : goal.decreases-loop-at

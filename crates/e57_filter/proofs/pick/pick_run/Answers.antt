@@ -12,8 +12,8 @@ use Rattle.e57_filter.proofs.pick.pick_run.Goals as goal
 pub hand_marked-requires-clause-pending : goal.hand_marked-requires-clause-pending
 hand_marked-requires-clause-pending g c = pending_many c.args.cloud.now c.args.out.now c.requires.standing
 
-pub returns-then-handed-eq0 : goal.returns-then-handed-eq0
-returns-then-handed-eq0 g c =
+pub returns-then-handed-eq0-clause-picks : goal.returns-then-handed-eq0-clause-picks
+returns-then-handed-eq0-clause-picks g c =
     let more = picked c.args.flags.now (held_columns c.args.blocks.now c.args.i c.args.n) in
     let none = c.if-handed-eq0.true in
     adds_nothing g.T.Target.view c.args.cloud.now c.hand_marked.new.cloud c.args.out.now more (mark_count c.args.flags.now)
@@ -50,8 +50,8 @@ end_block-requires-clause-limit g c =
     subst (λ (x : Cloud). x.count + block_length x ≤ x.at_most) (sym c.in-Ok.ensures.0)
     (subst (λ k. c.args.cloud.now.count + k ≤ c.args.cloud.now.at_most) (sym size) (omega (arith, few, limit, long)))
 
-pub returns-in-Err-end_block : goal.returns-in-Err-end_block
-returns-in-Err-end_block g c =
+pub returns-in-Err-end_block-clause-picks : goal.returns-in-Err-end_block-clause-picks
+returns-in-Err-end_block-clause-picks g c =
     let more = picked c.args.flags.now (held_columns c.args.blocks.now c.args.i c.args.n) in
     let are = picked_are c.args.cloud.now c.args.blocks.now c.args.i c.args.n c.args.flags.now c.requires.kinds c.requires.long c.requires.fit in
     let many = pending_many c.args.cloud.now c.args.out.now c.requires.standing in
@@ -60,11 +60,24 @@ returns-in-Err-end_block g c =
     (some_fields c.args.cloud.now c.args.blocks.now c.requires.kinds c.requires.fields.0) lost.0 lost.1
     (subst (λ (x : Cloud). LosesRecords g.T.Target.view c.args.out.now (PassesBlock x c.args.out.now) (HasStrings x.kinds) c.in-Err-end_block.fault (g.T.Target.view c.end_block.new.out.target)) c.in-Ok.ensures.0 lost.2)
 
-pub returns : goal.returns
-returns g c =
+pub returns-clause-picks : goal.returns-clause-picks
+returns-clause-picks g c =
     let more = picked c.args.flags.now (held_columns c.args.blocks.now c.args.i c.args.n) in
     let are = picked_are c.args.cloud.now c.args.blocks.now c.args.i c.args.n c.args.flags.now c.requires.kinds c.requires.long c.requires.fit in
     let many = pending_many c.args.cloud.now c.args.out.now c.requires.standing in
     adds_block (mark_count c.args.flags.now) more c.args.cloud.now c.args.out.now are c.requires.between many g.T.Target.view c.end_block.new.self c.end_block.new.out
     (some_fields c.args.cloud.now c.args.blocks.now c.requires.kinds c.requires.fields.0)
     (subst (λ (x : Cloud). EndsBlock g.T.Target.view x c.args.out.now c.end_block.new.self c.end_block.new.out) c.in-Ok.ensures.0 c.in_default.ensures)
+
+pub returns-clause-idle : goal.returns-clause-idle
+returns-clause-idle g c = λ same.
+    let more = picked c.args.flags.now (held_columns c.args.blocks.now c.args.i c.args.n) in
+    let are = picked_are c.args.cloud.now c.args.blocks.now c.args.i c.args.n c.args.flags.now c.requires.kinds c.requires.long c.requires.fit in
+    let many = pending_many c.args.cloud.now c.args.out.now c.requires.standing in
+    let adds = adds_block (mark_count c.args.flags.now) more c.args.cloud.now c.args.out.now are c.requires.between many g.T.Target.view c.end_block.new.self c.end_block.new.out
+    (some_fields c.args.cloud.now c.args.blocks.now c.requires.kinds c.requires.fields.0)
+    (subst (λ (x : Cloud). EndsBlock g.T.Target.view x c.args.out.now c.end_block.new.self c.end_block.new.out) c.in-Ok.ensures.0 c.in_default.ensures) in
+    let count = adds.count in
+    let not = c.if-handed-eq0.false in
+    let number = c.in-Ok.ensures.1 in
+    absurd (omega (arith, same, count, not, number))

@@ -4,7 +4,7 @@ use Rattle.e57_elements.specs.declared.tree.RawNode.{RawNode}
 use Rattle.e57_tree.specs.declared.items.Item.TheVariants as item
 use Rattle.e57_repack.specs.Ranges.{AreLimits}
 use Rattle.e57_repack.proofs.Ranging.{blank-limits, found-all, item-here, items-none, not-found, widened-to}
-use Rattle.e57_repack.proofs.Trees.{good-tree}
+use Rattle.e57_copy.proofs.OneTree.{good-tree}
 use Rattle.e57_repack.proofs.ranges.narrow_ranges.Goals as goal
 
 pub loop-item-init : goal.loop-item-init

@@ -1,4 +1,4 @@
-use Rattle.std.proofs.Common.{◌≡◌, Err, ap, sym, ◌∙◌}
+use Rattle.std.proofs.Common.{Err, ap, ◌∙◌}
 use Rattle.e57_show.specs.Blob.{blob_streamed}
 use Rattle.e57_tool.proofs.Showing.{placed}
 use Rattle.e57_tool.proofs.Streaming.{unopened, completed, failed}

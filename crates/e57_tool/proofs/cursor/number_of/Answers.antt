@@ -1,4 +1,4 @@
-use Rattle.std.proofs.Common.{◌≡◌, ◌∙◌, ap, sym}
+use Rattle.std.proofs.Common.{◌∙◌, ap, sym}
 use Rattle.std.specs.List.{list_all}
 use Rattle.e57_tool.specs.Cursor.{is_digit}
 use Rattle.e57_tool.proofs.Numbers.{not_parsed}

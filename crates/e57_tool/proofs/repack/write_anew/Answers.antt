@@ -14,4 +14,4 @@ returns g c =
     let after = c.repack-target.new.pages in
     let asks = c.repack-target.ensures.source in
     rw c.into_source.ensures
-    (rewritten g.T.Target.view (repacking c.args.chunk c.args.tight) c.args.name.now c.args.made.now (view c.args.source) (view before.source) (view after.source) before.length before.header asks.pages c.args.target c.repack-target.result.0 c.repack-target.result.1 c.ending_of.result c.in-Ok.ensures.opened asks.asks c.repack-target.ensures.repacks c.ending_of.ensures)
+    (rewritten g.T.Target.view (repacking c.args.chunk c.args.tight) c.args.name.now c.args.made.now (view c.args.source) (view before.source) (view after.source) before.length before.header asks.pages c.args.target c.repack-target.result.0 c.repack-target.result.1 c.of_writing.result c.in-Ok.ensures.opened asks.asks c.repack-target.ensures.repacks c.of_writing.ensures)
