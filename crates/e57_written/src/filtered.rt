@@ -363,20 +363,27 @@ const PARTS: [PartCase; 10] = [
         picked: Picked { from: 0, until: 40, every: 1, tests: &[(0, 0, 4)] } },
 ];
 
-// Of a file of blobs and clouds the second cloud is filtered, and all else stays.
+// A file of blobs and clouds, with this one as the second cloud.
+fn among_others(alloc: Global, second: Thing<'_>, chunk: u64) -> Result<Vec<u8>, AllocError> {
+    let mut things = Vec::new(alloc);
+    things.push(Thing::Blob(1004))?;
+    things.push(Thing::Cloud(KINDS, 100))?;
+    things.push(second)?;
+    things.push(Thing::Blob(5))?;
+    things.push(Thing::Cloud(KINDS, 0))?;
+    written(alloc, &things, chunk)
+}
+
+// The second cloud is filtered, and all else stays.
 fn is_written_in_part(alloc: Global, case: &PartCase) -> Result<bool, AllocError> {
-    let cloud = Thing::Cloud(case.kinds, case.count);
-    let records = kept_records(alloc, case.kinds, &case.picked)?;
-    let part = Thing::Part(case.kinds, case.fields, &records);
-    let other = Thing::Cloud(KINDS, 100);
-    let none = Thing::Cloud(KINDS, 0);
-    let before = [Thing::Blob(1004), other, cloud, Thing::Blob(5), none];
-    let after = [Thing::Blob(1004), other, part, Thing::Blob(5), none];
+    let whole = Thing::Cloud(case.kinds, case.count);
     let mut more = Vec::new(alloc);
     more.push("1")?;
     more.extend_from_slice(case.options)?;
-    let left = filtered(alloc, written(alloc, &before, 24)?, &more)?;
-    Ok(left.is(Status::Done, b"", &written(alloc, &after, 8192)?))
+    let left = filtered(alloc, among_others(alloc, whole, 24)?, &more)?;
+    let records = kept_records(alloc, case.kinds, &case.picked)?;
+    let part = Thing::Part(case.kinds, case.fields, &records);
+    Ok(left.is(Status::Done, b"", &among_others(alloc, part, 8192)?))
 }
 
 #[test]
