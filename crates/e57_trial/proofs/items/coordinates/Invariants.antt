@@ -1,0 +1,6 @@
+use Rattle.std.proofs.Common.{◌≡◌, ℕ, ◌+◌, ◌<◌, length, get_or, pos}
+use Rattle.e57_trial.specs.Records.{coordinate_at}
+use Rattle.e57_trial.proofs.items.coordinates.Given as goal
+
+abbrev pub invariant-loop-k : goal.invariant-loop-k
+invariant-loop-k l = (length l.values ≡ 1024) × ((j : ℕ) → j < l.k → get_or l.values j (pos 0) ≡ pos (coordinate_at l.start l.factor (l.first + j)))
