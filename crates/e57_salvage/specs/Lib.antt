@@ -1,0 +1,4 @@
+pub mod Blobs
+pub mod Lines
+pub mod Saved
+pub mod Damage

@@ -1,0 +1,4 @@
+pub mod Spans
+pub mod Judged
+pub mod Lost
+pub mod Saved
