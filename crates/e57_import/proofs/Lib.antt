@@ -1,0 +1,5 @@
+pub mod Numerals
+pub mod Records
+pub mod Walked
+pub mod Judging
+pub mod WholeFile
