@@ -14,7 +14,7 @@ _e57_options() {
     esac
 }
 
-# How many words a command has before its options.
+# How many words a command that names a file has before its options.
 _e57_places() {
     case $1 in
         pages | info | list | check) echo 1 ;;
@@ -28,7 +28,7 @@ _e57() {
     local word=${COMP_WORDS[COMP_CWORD]} command=${COMP_WORDS[1]} places option
     COMPREPLY=()
     if [ "$COMP_CWORD" -eq 1 ]; then
-        mapfile -t COMPREPLY < <(compgen -W 'pages info list check blob extract repack filter --help --version' -- "$word")
+        mapfile -t COMPREPLY < <(compgen -W 'pages info list check blob extract repack filter trial --help --version' -- "$word")
         return
     fi
     places=$(_e57_places "$command")

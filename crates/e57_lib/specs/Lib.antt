@@ -18,3 +18,4 @@ pub mod Copy
 pub mod Plain
 pub mod Repack
 pub mod Filter
+pub mod Trial

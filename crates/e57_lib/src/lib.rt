@@ -47,7 +47,7 @@ pub mod verdict {
     pub use e57_check::{Summary, check, judge};
 }
 
-/// A new file: a file written anew, whole or with a part of a cloud; its pages, the section of a cloud block by block,
+/// A new file: a file written anew, whole or with a part of a cloud; one made of two numbers, as large as is wanted; its pages, the section of a cloud block by block,
 /// records, clouds and blobs that are copied, its end; and trees with other limits, fields, records and counts.
 pub mod writing {
     pub use e57_chunk_out::{CloudOut, Written, items_stand, new_cloud_stands};
@@ -57,4 +57,5 @@ pub mod writing {
     pub use e57_filter::{FilterAsk, Keep, filter};
     pub use e57_page_out::PagesOut;
     pub use e57_repack::repack;
+    pub use e57_trial::{TrialFiles, build_trial, write_trial};
 }

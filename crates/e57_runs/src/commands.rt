@@ -1,6 +1,8 @@
 //! Each command line, and what it puts.
 
-use e57_samples::files::{THREE_RECORDS_TEXT, WordOrder, changed, three_records, two_pages};
+use e57_samples::files::{
+    THREE_RECORDS_TEXT, WordOrder, changed, three_records, two_pages, two_points,
+};
 use e57_samples::runs::{failing_sink, room, run_on, run_words, source_of};
 use e57_tool::Status;
 use std::alloc::{AllocError, Global};
@@ -11,6 +13,7 @@ use std::test::*;
 enum Content {
     TwoPages,
     OtherWordOrder,
+    TwoPoints,
     ThreeRecords,
     Damaged,
     OtherVersion,
@@ -23,6 +26,7 @@ fn bytes_of(alloc: Global, content: Content) -> Result<Vec<u8>, AllocError> {
     match content {
         Content::TwoPages => two_pages(alloc, first),
         Content::OtherWordOrder => two_pages(alloc, WordOrder::LeastSignificantFirst),
+        Content::TwoPoints => two_points(alloc),
         Content::ThreeRecords => three_records(alloc),
         Content::Damaged => Ok(changed(two_pages(alloc, first)?, 1500)),
         Content::OtherVersion => Ok(changed(two_pages(alloc, first)?, 12)),
@@ -60,6 +64,7 @@ e57 blob FILE K  write the bytes of blob K
 e57 extract FILE CLOUD [--fields=A,B] [--from=I] [--count=N] [--decimal=yes]  write records as rows
 e57 repack IN OUT [--chunk=N] [--tight=yes]  write an accepted file anew
 e57 filter IN OUT CLOUD [--fields=A,B] [--keep=FIELD:LOW:HIGH].. [--every=K] [--from=I] [--count=N]  write some of a cloud
+e57 trial START COUNT  make two files of COUNT records in memory, check and read them
 e57 --help       show this text, as -h does
 e57 --version    show the version
 status 0   done
@@ -72,9 +77,10 @@ status 6   the file doesn't have what was asked for
 ";
 
 #[rattlefmt::skip]
-const CASES: [Case; 28] = [
+const CASES: [Case; 29] = [
     (PAGES, Content::TwoPages, Status::Done, LINE, "", &[0, 0, 1]),
     (PAGES, Content::OtherWordOrder, Status::Done, LINE, "", &[0, 0, 1]),
+    (PAGES, Content::TwoPoints, Status::Done, LINE, "", &[0, 0, 1]),
     (PAGES, Content::ThreeRecords, Status::Done, "pages 3 xml 2048 320\n", "", &[0, 0, 1, 2]),
     (PAGES, Content::Damaged, Status::Refused, "", "refused Page 1 0\n", &[0, 0, 1]),
     (PAGES, Content::OtherVersion, Status::Refused, "", "refused Version 1 1\n", &[0]),

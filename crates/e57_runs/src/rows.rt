@@ -123,6 +123,11 @@ const POINTS_ROWS: &str = "cartesianX,cartesianY,cartesianZ,intensity,colorRed,c
 bf800000,00000000,40000000,4095,1,2,3
 ";
 
+// Where the greatest intensity is 4094, the second point is past it.
+const FIRST_POINT: &str = "cartesianX,cartesianY,cartesianZ,intensity,colorRed,colorGreen,colorBlue
+3f800000,40000000,3f000000,100,255,0,16
+";
+
 const NO_RECORDS_TEXT: &str =
     "<e57Root type=\"Structure\"><p type=\"CompressedVector\" fileOffset=\"0\" recordCount=\"0\"><prototype type=\"Structure\"><x type=\"Integer\"/></prototype></p></e57Root>";
 
@@ -164,6 +169,7 @@ enum Content {
     Bits(&'static [(usize, u8)]),
     Chunks(&'static [(usize, u8)]),
     Points,
+    PastLimit,
     IndexedPoints,
     ThreeRecords,
     NoRecords,
@@ -178,6 +184,7 @@ fn bytes_of(alloc: Global, content: Content) -> Result<Vec<u8>, AllocError> {
         Content::Bits(edits) => bits(alloc, edits),
         Content::Chunks(edits) => chunks(alloc, edits),
         Content::Points => two_points(alloc),
+        Content::PastLimit => edited(alloc, &two_points(alloc)?, &[(780, b'4')]),
         Content::IndexedPoints => indexed_points(alloc),
         Content::ThreeRecords => three_records(alloc),
         Content::NoRecords => file_with(alloc, b"", NO_RECORDS_TEXT, 48),
@@ -201,7 +208,7 @@ type Case = (
 const ALL: &[&str] = &["0"];
 
 #[rattlefmt::skip]
-const CASES: [Case; 38] = [
+const CASES: [Case; 39] = [
     (Content::Bits(&[]), ALL, Status::Done, "x\n1\n0\n1\n0\n1\n0\n0\n0\n0\n1\n1\n1\n1\n", "", &[0]),
     (Content::Bits(&[]), &["0", "--from=4", "--count=2"], Status::Done, "x\n1\n0\n", "", &[0]),
     (Content::Bits(&[(93, 0)]), ALL, Status::Refused, "x\n1\n0\n1\n0\n1\n", "refused IndexTarget 1 5\n", &[0]),
@@ -214,6 +221,7 @@ const CASES: [Case; 38] = [
     (Content::Chunks(&[(1044, 0), (1045, 0)]), ALL, Status::Done, CHUNKS_ROWS, "", &[0, 2, 1]),
     (Content::Chunks(&[]), &["0", "--from=15", "--fields=tag,intensity", "--count=2"], Status::Done, "tag,intensity\naaa,15\n,16\n", "", &[0, 2, 1]),
     (Content::Points, ALL, Status::Done, POINTS_ROWS, "", &[0, 1]),
+    (Content::PastLimit, ALL, Status::Refused, FIRST_POINT, "refused ValueRange 1 11\n", &[0, 1]),
     (Content::IndexedPoints, ALL, Status::Done, POINTS_ROWS, "", &[0, 1]),
     (Content::Points, &["1"], Status::AskRefused, "", "ask cloud 1 1\n", &[0, 1]),
     (Content::Points, &["0", "--fields=colorRed,x"], Status::AskRefused, "", "ask field 1 7\n", &[0, 1]),

@@ -61,6 +61,13 @@ next_number unread = counted (next_place unread) where
   counted (Ok (word, rest)) = numbered (number_of word) rest
   counted (Err at) = Err at
 
+-- the next word, which is a number up to this one, and the words behind it; or the number of the word at fault
+abbrev pub next_number_up_to : ℕ → Unread → Result (ℕ × Unread) ℕ
+next_number_up_to most unread = bounded (next_number unread) where
+  bounded : Result (ℕ × Unread) ℕ → Result (ℕ × Unread) ℕ
+  bounded (Ok (n, rest)) = if nat_le n most then Ok (n, rest) else Err unread.at
+  bounded (Err at) = Err at
+
 -- the number of the next word, where one is left
 abbrev pub left_over : Unread → Option ℕ
 left_over unread = next unread.words where

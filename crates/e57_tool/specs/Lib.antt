@@ -10,6 +10,7 @@ pub mod Outside
 pub mod Run
 pub mod PagesAsked
 pub mod FileAnswer
+pub mod Putting
 pub mod Text
 pub mod Pages
 pub mod Show
@@ -21,3 +22,4 @@ pub mod Check
 pub mod Rewritten
 pub mod Repack
 pub mod Filter
+pub mod Trial

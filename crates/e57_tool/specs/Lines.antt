@@ -13,6 +13,11 @@ pages_line count place length = codes "pages " ++ decimal count ++ codes " xml "
 abbrev pub accepted_line : ℕ → ℕ → ℕ → List ℕ
 accepted_line clouds blobs records = codes "accepted " ++ decimal clouds ++ codes " " ++ decimal blobs ++ codes " " ++ decimal records ++ codes "\n"
 
+-- `trial START COUNT first L1 second L2 sum X`: the two numbers of a content, the lengths of its two files in bytes, and a sum
+abbrev pub trial_line : ℕ → ℕ → ℕ → ℕ → ℕ → List ℕ
+trial_line start count first second sum =
+    codes "trial " ++ decimal start ++ codes " " ++ decimal count ++ codes " first " ++ decimal first ++ codes " second " ++ decimal second ++ codes " sum " ++ decimal sum ++ codes "\n"
+
 -- `KIND A B`: a fault
 abbrev pub fault_words : Fault → List ℕ
 fault_words found = kind_name found.kind ++ codes " " ++ decimal found.a ++ codes " " ++ decimal found.b ++ codes "\n"

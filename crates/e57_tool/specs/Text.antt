@@ -1,12 +1,7 @@
--- `--help` and `--version`: a text is put.
+-- `--help` and `--version`: the texts that are put.
 use Rattle.std.specs.Prelude.{ℕ, List, ◌++◌, false, codes}
-use Rattle.e57_base.specs.Count.{Rose}
-use Rattle.e57_base.specs.Sink.{Grows, GrowsByFront}
-use Rattle.e57_base.specs.declared.fault.RunFault.TheVariants.{Refused, Source, Out, Memory, Ask}
-use Rattle.e57_tool.specs.declared.ending.Ending.{Ending}
-use Rattle.e57_tool.specs.declared.ending.Ending.TheVariants.{Done, RefusedOnOut, RefusedSecond, Failed}
-use Rattle.e57_tool.specs.Outside.{Outside}
-use Rattle.e57_tool.specs.Run.{Promise, NoFile}
+use Rattle.e57_tool.specs.Run.{Promise}
+use Rattle.e57_tool.specs.Putting.{putting}
 
 -- the commands, and then the statuses, one a line
 abbrev pub help_text : List ℕ
@@ -19,6 +14,7 @@ help_text =
     ++ codes "e57 extract FILE CLOUD [--fields=A,B] [--from=I] [--count=N] [--decimal=yes]  write records as rows\n"
     ++ codes "e57 repack IN OUT [--chunk=N] [--tight=yes]  write an accepted file anew\n"
     ++ codes "e57 filter IN OUT CLOUD [--fields=A,B] [--keep=FIELD:LOW:HIGH].. [--every=K] [--from=I] [--count=N]  write some of a cloud\n"
+    ++ codes "e57 trial START COUNT  make two files of COUNT records in memory, check and read them\n"
     ++ codes "e57 --help       show this text, as -h does\n"
     ++ codes "e57 --version    show the version\n"
     ++ codes "status 0   done\n"
@@ -32,24 +28,8 @@ help_text =
 abbrev pub version_text : List ℕ
 version_text = codes "e57 0.1.0\n"
 
--- The text was put, or a prefix of it where the sink failed.
-abbrev pub PutsText : List ℕ → Outside → Outside → Ending → Type 0
-PutsText text before after Done = Grows before.out.written text after.out.written
-PutsText text before after RefusedOnOut = ⊥
-PutsText text before after (RefusedSecond found) = ⊥
-PutsText text before after (Failed (Refused found)) = ⊥
-PutsText text before after (Failed Source) = ⊥
-PutsText text before after (Failed Out) = Rose before.out.faults after.out.faults × GrowsByFront before.out.written text after.out.written
-PutsText text before after (Failed Memory) = ⊥
-PutsText text before after (Failed (Ask why)) = ⊥
+abbrev pub help_promise : Promise
+help_promise = putting false help_text
 
--- what a command promises that puts this text
-abbrev pub putting : List ℕ → Promise
-putting text =
-    record {
-      ends = PutsText text;
-      is_ready = λ before. Unit {0};
-      takes_memory = false;
-      opens = NoFile;
-      writes = false;
-    }
+abbrev pub version_promise : Promise
+version_promise = putting false version_text

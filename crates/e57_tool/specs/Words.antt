@@ -1,11 +1,12 @@
 -- What the words of a command line ask for.
-use Rattle.std.specs.Prelude.{ℕ, Bool, if◌then◌else◌, List, [], ◌∷◌, Result, Ok, Err, codes}
+use Rattle.std.specs.Prelude.{ℕ, ◌≤◌, Bool, if◌then◌else◌, List, [], ◌∷◌, Result, Ok, Err, codes}
 use Rattle.std.specs.Str.{bytes_eq}
 use Rattle.e57_show.specs.Extract.{Asked, IsLimited, asked_by}
 use Rattle.e57_chunk_out.specs.CloudCalls.{IsChunkLength}
 use Rattle.e57_filter.specs.Asking.{FilterAsked}
 use Rattle.e57_filter.specs.Asks.{filter_asked, IsLimitedFilter}
-use Rattle.e57_tool.specs.Cursor.{Unread, next_place, next_other, next_number, at_end}
+use Rattle.e57_trial.specs.Content.{most_records}
+use Rattle.e57_tool.specs.Cursor.{Unread, next_place, next_other, next_number, next_number_up_to, at_end}
 use Rattle.e57_tool.specs.Options.{RowsGiven, nothing_given, with_options, rows_options, rows_asked}
 use Rattle.e57_tool.specs.RepackOptions.{RepackGiven, no_repack_given, repack_rows, chunk_given, tight_given}
 use Rattle.e57_tool.specs.FilterOptions.{FilterGiven, no_filter_given, filter_rows, filter_given}
@@ -34,6 +35,8 @@ pub data Command : Type 0 where
   RepackOf : (file made : List ℕ) → (chunk : ℕ) → (is_tight : Bool) → Command
   -- `filter IN OUT CLOUD`, and options
   FilterOf : (file made : List ℕ) → (what : FilterAsked) → Command
+  -- `trial START COUNT`
+  TrialOf : (start count : ℕ) → Command
 
 -- the one place behind a command, and no word behind it
 abbrev pub only_place : Unread → Result (List ℕ) ℕ
@@ -107,6 +110,17 @@ filter_ask unread = of_file (next_place unread) where
   of_file (Ok (file, rest)) = of_made file (next_other file rest)
   of_file (Err at) = Err at
 
+-- two numbers, of which the second is a number of records, and no word behind them
+abbrev pub trial_ask : Unread → Result Command ℕ
+trial_ask unread = of_start (next_number unread) where
+  of_count : ℕ → Result (ℕ × Unread) ℕ → Result Command ℕ
+  of_count start (Ok (count, rest)) = at_end (TrialOf start count) rest
+  of_count start (Err at) = Err at
+
+  of_start : Result (ℕ × Unread) ℕ → Result Command ℕ
+  of_start (Ok (start, rest)) = of_count start (next_number_up_to most_records rest)
+  of_start (Err at) = Err at
+
 -- what a command with the words behind it asks for, or the number of the first word at fault
 unfoldable pub command_ask : List ℕ → Unread → Result Command ℕ
 command_ask command words =
@@ -121,6 +135,7 @@ command_ask command words =
     else if bytes_eq command (codes "extract") then extract_ask words
     else if bytes_eq command (codes "repack") then repack_ask words
     else if bytes_eq command (codes "filter") then filter_ask words
+    else if bytes_eq command (codes "trial") then trial_ask words
     else Err 0
 
 -- What the words ask for, or the number of the first word at fault. The command is word 0. Where a place is missing, it is
@@ -141,11 +156,13 @@ command_of (asked.Blob file k) = BlobOf file.now k
 command_of (asked.Extract file given) = ExtractOf file.now (asked_by given)
 command_of (asked.Repack file made chunk is_tight) = RepackOf file.now made.now chunk is_tight
 command_of (asked.Filter file made given) = FilterOf file.now made.now (filter_asked given)
+command_of (asked.Trial start count) = TrialOf start count
 
 -- no number of records is above the most that may be asked for, and a chunk may have the asked number of them; of a cloud that is
--- filtered each record or each of some is looked at
+-- filtered each record or each of some is looked at; a file that is made has at most the most records
 abbrev pub IsLimitedAsk : Ask → Type 0
 IsLimitedAsk (asked.Extract file given) = IsLimited given
 IsLimitedAsk (asked.Repack file made chunk is_tight) = IsChunkLength chunk
 IsLimitedAsk (asked.Filter file made given) = IsLimitedFilter given
+IsLimitedAsk (asked.Trial start count) = count ≤ most_records
 IsLimitedAsk _ = Unit {0}

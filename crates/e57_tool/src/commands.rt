@@ -14,6 +14,7 @@ use crate::list::show_list;
 use crate::pages::test_pages;
 use crate::repack::repack_file;
 use crate::text::{put_help, put_version};
+use crate::trials::put_trial;
 use crate::words::Ask;
 use e57_base::{Sink, Source, Target};
 use std::alloc::Global;
@@ -44,5 +45,6 @@ pub fn perform<S: Source, T: Target, O: Sink>(
         Ask::Filter(file, made, ask) => {
             filter_file(alloc, file, made, &ask, source, target, out)
         }
+        Ask::Trial(start, count) => put_trial(alloc, start, count, source, target, out),
     }
 }

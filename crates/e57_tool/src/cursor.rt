@@ -1,8 +1,8 @@
 //! The words of a command line, read one after another.
 
-ghost use Rattle.std.specs.Prelude.{◌≡◌, Some, None, Ok, Err, MatchResult};
+ghost use Rattle.std.specs.Prelude.{◌≡◌, ◌≤◌, Some, None, Ok, Err, IfOk, MatchResult};
 ghost use Rattle.std.specs.List.{list_all};
-ghost use Rattle.e57_tool.specs.Cursor.{unread, is_digit, is_place, next_place, number_of, next_number, next_other, left_over};
+ghost use Rattle.e57_tool.specs.Cursor.{unread, is_digit, is_place, next_place, number_of, next_number, next_number_up_to, next_other, left_over};
 
 /// The words ask for nothing.
 #[derive(Clone, Copy, Debug, PartialEq, Eq)]
@@ -81,6 +81,24 @@ impl<'a> Cursor<'a> {
         let Some(n) = number_of(word) else {
             return Err(fault);
         };
+        Ok(n)
+    }
+
+    /// The next word, which has to be there and to be such a number, at most this one.
+    pub fn number_up_to(&mut self, most: u64) -> Result<u64, WordFault>
+        ensures words { self.new.words.now ≡ self.old.words.now }
+        ensures number { MatchResult result
+            (λ n. next_number_up_to most (unread self.old) ≡ Ok (n, unread self.new))
+            (λ fault. next_number_up_to most (unread self.old) ≡ Err fault.at) }
+        ensures limit { IfOk result (λ n. n ≤ most) }
+    {
+        let fault = WordFault {
+            at: self.next as u64,
+        };
+        let n = self.number()?;
+        if n > most {
+            return Err(fault);
+        }
         Ok(n)
     }
 

@@ -20,9 +20,11 @@ mod repack;
 mod repack_options;
 mod status;
 mod text;
+mod trials;
 mod words;
 
 pub use cursor::WordFault;
 pub use program::run;
 pub use status::Status;
+pub use trials::trial;
 pub use words::{Ask, read_words};

@@ -1,14 +1,14 @@
 //! Lines of text of bounded length.
 
 ghost use Rattle.std.specs.Prelude.{◌≡◌, ◌≤◌, ◌++◌, length};
-ghost use Rattle.e57_tool.specs.Lines.{pages_line, accepted_line, refused_line, second_line, fault_words, ask_numbers, ask_line, words_line};
+ghost use Rattle.e57_tool.specs.Lines.{pages_line, accepted_line, trial_line, refused_line, second_line, fault_words, ask_numbers, ask_line, words_line};
 
 use arrayvec::ArrayString;
 use e57_base::{AskFault, Fault};
 use itoa::Buffer;
 
 /// Room for the longest line.
-pub type Line = ArrayString<96>;
+pub type Line = ArrayString<128>;
 
 /// `pages N xml PLACE LENGTH`
 pub fn pages_line(count: u64, place: u64, length: u64) -> Line
@@ -36,6 +36,25 @@ pub fn accepted_line(clouds: u64, blobs: u64, records: u64) -> Line
     line.push_str(Buffer::new().format(blobs));
     line.push_str(" ");
     line.push_str(Buffer::new().format(records));
+    line.push_str("\n");
+    line
+}
+
+/// `trial START COUNT first L1 second L2 sum X`
+pub fn trial_line(start: u64, count: u64, first: u64, second: u64, sum: u64) -> Line
+    ensures { result.bytes ≡ trial_line start count first second sum }
+{
+    let mut line = Line::new();
+    line.push_str("trial ");
+    line.push_str(Buffer::new().format(start));
+    line.push_str(" ");
+    line.push_str(Buffer::new().format(count));
+    line.push_str(" first ");
+    line.push_str(Buffer::new().format(first));
+    line.push_str(" second ");
+    line.push_str(Buffer::new().format(second));
+    line.push_str(" sum ");
+    line.push_str(Buffer::new().format(sum));
     line.push_str("\n");
     line
 }
@@ -123,7 +142,7 @@ pub fn words_line(at: u64) -> Line
 
 /// A line that has no number.
 pub fn text_line(text: &str) -> Line
-    requires { length text.now ≤ 96 }
+    requires { length text.now ≤ 128 }
     ensures { result.bytes ≡ text.now }
 {
     let mut line = Line::new();

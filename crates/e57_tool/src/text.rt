@@ -1,7 +1,7 @@
 //! `--help` and `--version`.
 
 ghost use Rattle.e57_tool.specs.Run.{Keeps};
-ghost use Rattle.e57_tool.specs.Text.{putting, help_text, version_text};
+ghost use Rattle.e57_tool.specs.Text.{help_promise, version_promise};
 
 use crate::ending::Ending;
 use e57_base::{RunFault, Sink, Source, Target};
@@ -15,6 +15,7 @@ e57 blob FILE K  write the bytes of blob K
 e57 extract FILE CLOUD [--fields=A,B] [--from=I] [--count=N] [--decimal=yes]  write records as rows
 e57 repack IN OUT [--chunk=N] [--tight=yes]  write an accepted file anew
 e57 filter IN OUT CLOUD [--fields=A,B] [--keep=FIELD:LOW:HIGH].. [--every=K] [--from=I] [--count=N]  write some of a cloud
+e57 trial START COUNT  make two files of COUNT records in memory, check and read them
 e57 --help       show this text, as -h does
 e57 --version    show the version
 status 0   done
@@ -31,7 +32,7 @@ const VERSION: &str = "e57 0.1.0\n";
 
 /// Puts the help on `out`.
 pub fn put_help<S: Source, T: Target, O: Sink>(source: S, target: T, out: &mut O) -> (S, T, Ending)
-    ensures { Keeps S.view T.view O.view (putting help_text) source target out.old result out.new }
+    ensures { Keeps S.view T.view O.view help_promise source target out.old result out.new }
 {
     match out.put(HELP.as_bytes()) {
         Ok(()) => (source, target, Ending::Done),
@@ -45,7 +46,7 @@ pub fn put_version<S: Source, T: Target, O: Sink>(
     target: T,
     out: &mut O,
 ) -> (S, T, Ending)
-    ensures { Keeps S.view T.view O.view (putting version_text) source target out.old result out.new }
+    ensures { Keeps S.view T.view O.view version_promise source target out.old result out.new }
 {
     match out.put(VERSION.as_bytes()) {
         Ok(()) => (source, target, Ending::Done),

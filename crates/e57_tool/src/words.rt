@@ -2,7 +2,7 @@
 
 ghost use Rattle.std.specs.Prelude.{◌≡◌, Ok, Err, map, string_bytes, IfOk, MatchResult};
 ghost use Rattle.e57_tool.specs.Cursor.{unread, at_end};
-ghost use Rattle.e57_tool.specs.Words.{IsLimitedAsk, ask_of, blob_ask, command_ask, command_of, extract_ask, filter_ask, only_place, repack_ask};
+ghost use Rattle.e57_tool.specs.Words.{IsLimitedAsk, ask_of, blob_ask, command_ask, command_of, extract_ask, filter_ask, only_place, repack_ask, trial_ask};
 
 use crate::cursor::{Cursor, WordFault};
 use crate::filter_options::FilterOptions;
@@ -35,6 +35,8 @@ pub enum Ask<'a> {
     Repack(&'a str, &'a str, u32, bool),
     /// `filter IN OUT CLOUD`, and options
     Filter(&'a str, &'a str, FilterAsk<'a>),
+    /// `trial START COUNT`
+    Trial(u64, u64),
 }
 
 // The one place behind a command, a file's name, and no word behind it.
@@ -110,6 +112,22 @@ fn read_filter(mut words: Cursor<'_>) -> Result<Ask<'_>, WordFault>
     Ok(Ask::Filter(file, made, options.of_cloud(cloud)))
 }
 
+/// The most records of a file that is made of two numbers.
+const MOST_RECORDS: u64 = 1 << 24;
+
+// Two numbers, of which the second is a number of records, and no word behind them.
+fn read_trial(mut words: Cursor<'_>) -> Result<Ask<'_>, WordFault>
+    ensures ask { MatchResult result
+        (λ ask. trial_ask (unread words.entry) ≡ Ok (command_of ask))
+        (λ fault. trial_ask (unread words.entry) ≡ Err fault.at) }
+    ensures limits { IfOk result IsLimitedAsk }
+{
+    let start = words.number()?;
+    let count = words.number_up_to(MOST_RECORDS)?;
+    words.end()?;
+    Ok(Ask::Trial(start, count))
+}
+
 // What a command with the words behind it asks for.
 #[tactic(auto, unfolding(crate::specs::Words::command_ask))]
 fn read_command<'a>(command: &str, words: Cursor<'a>) -> Result<Ask<'a>, WordFault>
@@ -130,6 +148,7 @@ fn read_command<'a>(command: &str, words: Cursor<'a>) -> Result<Ask<'a>, WordFau
         "extract" => read_extract(words),
         "repack" => read_repack(words),
         "filter" => read_filter(words),
+        "trial" => read_trial(words),
         _ => Err(WordFault { at: 0 }),
     }
 }

@@ -1,5 +1,5 @@
 //! Tests of what the commands that write leave in a target: a slow plain program that writes a file as the written form is
-//! defined, worked files, calls that fail.
+//! defined, worked files, calls that fail, files made of two numbers.
 #![tactic(auto)]
 
 #[cfg(test)]
@@ -16,3 +16,5 @@ mod plain_streams;
 mod repacked;
 #[cfg(test)]
 mod tables;
+#[cfg(test)]
+mod trials;
